@@ -77,6 +77,15 @@ not-all-from a e p i lo hi f =
     let w : i ≡ a + (i - a) = omega arith in
     not-all (e - a) (λ k. p (a + k)) (i - a) (omega arith) (subst (λ x. p x ≡ false) w f)
 
+pub from-none : (a : ℕ) (p : ℕ → Bool) → allFrom a a p ≡ true
+from-none a p = let e : a - a ≡ 0 = omega arith in rw e (all-none (λ k. p (a + k)))
+
+pub from-more : (a i : ℕ) (p : ℕ → Bool) → a ≤ i → allFrom a i p ≡ true → p i ≡ true → allFrom a (i + 1) p ≡ true
+from-more a i p l h e =
+    let w : i + 1 - a ≡ i - a + 1 = omega arith in
+    let v : i ≡ a + (i - a) = omega arith in
+    rw w (all-more (i - a) (λ k. p (a + k)) h (subst (λ x. p x ≡ true) v e))
+
 -- ---- sums
 pub sum-none : (f : ℕ → ℕ) → sumBelow 0 f ≡ 0
 unfolding sumBelow

@@ -32,6 +32,22 @@ house = record { page = 65536; pages = 128; blocks = 32768; entries = 32768 }
 abbrev pub headerBytes : ℕ
 headerBytes = 16
 
+-- where the header's numbers stand
+abbrev pub markerAt : ℕ
+markerAt = 0
+
+abbrev pub versionAt : ℕ
+versionAt = 4
+
+abbrev pub takenAt : ℕ
+takenAt = 8
+
+abbrev pub counterAt : ℕ
+counterAt = 10
+
+abbrev pub blankAt : ℕ
+blankAt = 12
+
 -- the version of an image
 abbrev pub version : ℕ
 version = 2

@@ -5,9 +5,9 @@ use mathlib.Core.List.{List, _++_}
 use lib.Dec.{eqb, ltb}
 use lib.ListN.{take, drop}
 use Rattle.laws.specs.Folds.{firstBelow}
-use Rattle.laws.specs.Bytes.{num, le, put}
+use Rattle.laws.specs.Bytes.{num, put}
 use Rattle.paper.specs.declared.Geometry.{Geometry}
-use Rattle.paper.specs.Geometry.{version, allOnes, need, entryAt, sizeAt, frontBytes}
+use Rattle.paper.specs.Geometry.{markerAt, versionAt, takenAt, counterAt, blankAt, version, allOnes, need, entryAt, sizeAt, frontBytes}
 
 -- an entry of the region table, decoded: not open, or so many pages in the book
 pub data Size : Type 0 where
@@ -35,15 +35,15 @@ module _ (g : Geometry) where
   module _ (t : List ℕ) where
     -- bytes 0..3 marker zero, 4..7 version 2, 12..15 zero
     unfoldable pub stamped : Bool
-    stamped = eqb (num 4 t 0) 0 && eqb (num 4 t 4) version && eqb (num 4 t 12) 0
+    stamped = eqb (num 4 t markerAt) 0 && eqb (num 4 t versionAt) version && eqb (num 4 t blankAt) 0
 
     -- bytes 8..9: N, the blocks ever taken
     unfoldable pub taken : ℕ
-    taken = num 2 t 8
+    taken = num 2 t takenAt
 
     -- bytes 10..11: C, the region counter
     unfoldable pub counter : ℕ
-    counter = num 2 t 10
+    counter = num 2 t counterAt
 
     -- the block-region table: the region and the position that block b names
     unfoldable pub owner : ℕ → ℕ
@@ -76,10 +76,10 @@ module _ (g : Geometry) where
 
   -- ---- a front with one number written anew
   unfoldable pub setTaken : ℕ → List ℕ → List ℕ
-  setTaken n t = put 2 8 n t
+  setTaken n t = put 2 takenAt n t
 
   unfoldable pub setCounter : ℕ → List ℕ → List ℕ
-  setCounter n t = put 2 10 n t
+  setCounter n t = put 2 counterAt n t
 
   unfoldable pub setEntry : ℕ → ℕ → ℕ → List ℕ → List ℕ
   setEntry b r p t = put 2 (entryAt g b + 2) p (put 2 (entryAt g b) r t)
