@@ -3,14 +3,14 @@ use Prim.Native.Nat.{ℕ, zero, suc, _+_, _-_, _*_, _/_, _%_, _^_, _≤_, _<_}
 use mathlib.Core.Path.{_≡_, refl, sym, _∙_, ap, ap₂}
 use mathlib.Core.List.{List, [], _∷_, _++_, append-assoc, append-nil}
 use native.Mathlib.Omega.{arith}
-use native.Mathlib.Nat.{zero-add, suc-add, mul-zero, mul-suc, mul-assoc, mod-lt, div-one, div-div-eq-div-mul, div-lt-iff-lt-mul, div-add-mod, pow-suc, pow-succ', one-le-pow}
+use native.Mathlib.Nat.{mod-eq-of-lt, add-zero, zero-add, suc-add, mul-zero, mul-suc, mul-assoc, mod-lt, div-one, div-div-eq-div-mul, div-lt-iff-lt-mul, div-add-mod, pow-suc, pow-succ', one-le-pow}
 use native.Mathlib.Numerals.{one-add}
 use lib.Arith.{digits-div, digits-mod, mod-mul}
-use lib.ListN.{drop, getD, length, length-append}
+use lib.ListN.{drop, getD, set, length, length-append}
 use lib.Seq.{getD-drop, drop-nil, drop-drop, drop-cons, drop-append-add, ext-getD}
 use Rattle.laws.specs.Folds.{listFrom, joinBelow}
 use Rattle.laws.specs.Bytes.{value, num, le, splice, put, pack}
-use Rattle.laws.proofs.Lists.{length-splice, drop-splice, splice-before, splice-after, listFrom-more}
+use Rattle.laws.proofs.Lists.{length-splice, drop-splice, splice-before, splice-after, listFrom-more, splice-then, set-splice}
 
 -- ---- a number's bytes
 pub length-le : (w x : ℕ) → length (le w x) ≡ w
@@ -91,6 +91,21 @@ le-mod (suc v) x =
     let e : x % 256 ^ suc v ≡ x / 256 % m * 256 + x % 256 = rw pow-suc (mod-mul x {m = m} {c = 256} (one-le-pow v 256 (omega arith)) (omega arith)) in
     let r = mod-lt x {m = 256} (omega arith) in
     rw (e, digits-mod (x / 256 % m) r, digits-div (x / 256 % m) r, le-mod v (x / 256))
+
+-- ---- a number of one byte
+pub num-one : (xs : List ℕ) (o : ℕ) → num 1 xs o ≡ getD xs o 0
+unfolding num value
+num-one xs o = rw (getD-drop o xs 0 0, add-zero, add-zero)
+
+pub set-put : (xs : List ℕ) (i v : ℕ) → i < length xs → v < 256 → set xs i v ≡ put 1 i v xs
+unfolding le
+set-put xs i v h b = set-splice xs i v h ∙ rw (mod-eq-of-lt b)
+
+-- ---- a number of v + w bytes is written as its low v bytes, then its high w
+pub put-join : (v w at x : ℕ) (xs : List ℕ) → at ≤ length xs → put w (at + v) (x / 256 ^ v) (put v at (x % 256 ^ v) xs) ≡ put (v + w) at x xs
+put-join v w at x xs h =
+    rw (le-mod v x, le-join v w x)
+    (splice-then at (at + v) (le v x) (le w (x / 256 ^ v)) xs (rw length-le refl) h)
 
 -- ---- numbers one after the other
 pub length-pack : (w : ℕ) (xs : List ℕ) → length (pack w xs) ≡ w * length xs

@@ -5,7 +5,7 @@ use mathlib.Core.Logic.{_⊎_, ⊎-elim}
 use mathlib.Core.Path.{_≡_, refl, sym, _∙_, ap, ap₂, subst}
 use mathlib.Core.List.{List, [], _∷_, _++_, append-assoc, append-nil}
 use native.Mathlib.Omega.{arith}
-use native.Mathlib.Nat.{not-suc-le-zero, le-of-suc-le-suc, add-assoc, add-zero, zero-add, add-suc, suc-add, suc-mul, add-comm}
+use native.Mathlib.Nat.{not-suc-le-zero, le-of-suc-le-suc, add-assoc, add-zero, zero-add, add-suc, suc-add, mul-comm}
 use native.Mathlib.Numerals.{add-one}
 use native.Mathlib.Decide.{decLt}
 use borrow.Author.Tests.{eqb-true, eqb-false, eq-eqb}
@@ -146,6 +146,13 @@ splice-then at n us vs xs q h =
     = rw (k, append-assoc, drop-drop) at (drop-append-add (take at xs ++ us) (drop (at + length us) xs) (length vs)) in
     rw (q, t, d, length-append) (simp (append-assoc, add-assoc))
 
+-- a loop's turn: one more list of w elements after i of them
+pub splice-row : (w at i : ℕ) (f : ℕ → List ℕ) (xs : List ℕ) → ((k : ℕ) → length (f k) ≡ w) → at ≤ length xs
+    → splice (at + w * i) (f i) (splice at (joinBelow i f) xs) ≡ splice at (joinBelow (i + 1) f) xs
+splice-row w at i f xs wide h =
+    rw (join-more i f)
+    (splice-then at (at + w * i) (joinBelow i f) (f i) xs (omega (arith, length-rows w f wide i, mul-comm w i)) h)
+
 -- one element
 pub set-splice : (xs : List ℕ) (i v : ℕ) → i < length xs → set xs i v ≡ splice i (v ∷ []) xs
 unfolding splice
@@ -155,6 +162,14 @@ set-splice xs i v h = rw (set-split xs i v) (ap (λ (n : ℕ). take i xs ++ (v �
 pub put-splice : (a k : ℕ) (xs ys : List ℕ) → length ys ≡ k → putMid a k xs ys ≡ splice a ys xs
 unfolding splice
 put-splice a k xs ys e = ap (λ (l : List ℕ). take a xs ++ (ys ++ l)) (drop-drop k a xs ∙ ap (λ (n : ℕ). drop (a + n) xs) (sym e))
+
+-- what comes back of &mut xs[at..at + n] after a copy of &ys[from..from + n]
+pub copied-splice : (from at n : ℕ) (ys xs zs : List ℕ) → from + n ≤ length ys → zs ≡ take (from + n - from) (drop from ys)
+    → putMid at (at + n - at) xs zs ≡ splice at (take n (drop from ys)) xs
+copied-splice from at n ys xs zs h e =
+    let k : from + n - from ≡ n = omega arith in
+    let f = rw k at e in
+    put-splice at (at + n - at) xs zs (ap length f ∙ simp (length-take, length-drop) (omega arith)) ∙ ap (λ l. splice at l xs) f
 
 -- the part xs[a..e]
 pub length-part : (a e : ℕ) (xs : List ℕ) → a ≤ e → e ≤ length xs → length (take (e - a) (drop a xs)) ≡ e - a
@@ -223,3 +238,8 @@ take-splice-after n at ys xs h fits =
     (λ i k.
     let b : i < n = omega (arith, simp (length-take, length-splice at ys xs fits) at k) in
     getD-take n (splice at ys xs) i 0 b ∙ splice-before at ys xs fits i (omega arith) ∙ sym (getD-take n xs i 0 b))
+
+-- a part written before the cut is one written into the first piece
+pub splice-first : (n at : ℕ) (ys xs : List ℕ) → at + length ys ≤ n → n ≤ length xs → splice at ys (take n xs) ++ drop n xs ≡ splice at ys xs
+splice-first n at ys xs h l =
+    rw (← take-splice n at ys xs h l, ← drop-splice-before n at ys xs h l) (take-append-drop n (splice at ys xs))
