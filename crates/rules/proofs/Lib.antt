@@ -1,0 +1,2 @@
+-- The laws of the stored image, its rules and its index.
+pub mod Cells
