@@ -4,24 +4,20 @@ use mathlib.Core.Bool.{Bool, true, false, not, cond}
 use mathlib.Core.Path.{_≡_, refl, sym, _∙_, ap}
 use mathlib.Core.List.{List, _++_}
 use native.Mathlib.Omega.{arith}
-use borrow.Author.Tests.{eq-eqb, ne-eqb, lt-ltb, le-ltb, ltb-true}
-use lib.Dec.{eqb, ltb}
+use borrow.Author.Tests.{eq-eqb, ne-eqb, lt-ltb}
+use lib.Dec.{eqb}
 use lib.ListN.{length, take, drop}
-use lib.Seq.{getD-take}
 use Rattle.laws.specs.Bytes.{num, le, splice, put}
-use Rattle.laws.proofs.Tests.{and-left}
 use Rattle.laws.proofs.Lists.{take-splice, drop-splice-before, splice-first}
-use Rattle.laws.proofs.Bytes.{num-agree, length-le, length-put}
+use Rattle.laws.proofs.Bytes.{length-le, length-put}
 use Rattle.paper.specs.declared.Geometry.{Geometry}
-use Rattle.paper.specs.Geometry.{takenAt, counterAt, allOnes, blockBytes, Allowed, need, entryAt, sizeAt, frontBytes}
-use Rattle.paper.specs.Image.{notOpen, holds, isHeld, front, rest, taken, counter, owner, place, sizeOf, pagesOf, isOpen, needOf}
+use Rattle.paper.specs.Geometry.{takenAt, counterAt, allOnes, blockBytes, Allowed, entryAt, sizeAt, frontBytes}
+use Rattle.paper.specs.Image.{notOpen, holds, isHeld, front, rest, taken, counter, owner, place, sizeOf, isOpen}
+use Rattle.rules.proofs.Cells.{num-front}
 use Rattle.image.specs.Readable.{Readable, fronted}
 
 pub front-fits : (g : Geometry) (image : List ℕ) → Readable g image → frontBytes g ≤ length image
 front-fits g image R = omega (arith, R .allowed .reserve, R .long)
-
-pub num-front : (g : Geometry) (image : List ℕ) (w o : ℕ) → o + w ≤ frontBytes g → num w image o ≡ num w (front g image) o
-num-front g image w o h = sym (num-agree w (front g image) image o o (λ i l. getD-take (frontBytes g) image (o + i) 0 (omega arith)))
 
 pub put-front : (g : Geometry) (image : List ℕ) → Readable g image → (w o x : ℕ) → o + w ≤ frontBytes g
     → put w o x image ≡ fronted g (put w o x (front g image)) image
@@ -42,50 +38,34 @@ put-front2 g image R w o x v p y h k =
 module _ (g : Geometry) (image : List ℕ) where
   pub taken-read : num 2 image takenAt ≡ taken g (front g image)
   unfolding taken
-  taken-read = num-front g image 2 takenAt (omega arith)
+  taken-read = sym (num-front g image 2 takenAt (omega arith))
 
   pub counter-read : num 2 image counterAt ≡ counter g (front g image)
   unfolding counter
-  counter-read = num-front g image 2 counterAt (omega arith)
+  counter-read = sym (num-front g image 2 counterAt (omega arith))
 
   module _ (b : ℕ) (h : b < g .blocks) where
     pub owner-read : num 2 image (entryAt g b) ≡ owner g (front g image) b
     unfolding owner
-    owner-read = num-front g image 2 (entryAt g b) (omega arith)
+    owner-read = sym (num-front g image 2 (entryAt g b) (omega arith))
 
     pub place-read : num 2 image (entryAt g b + 2) ≡ place g (front g image) b
     unfolding place
-    place-read = num-front g image 2 (entryAt g b + 2) (omega arith)
+    place-read = sym (num-front g image 2 (entryAt g b + 2) (omega arith))
 
   module _ (r n : ℕ) (h : r < g .entries) (e : n ≡ num 8 image (sizeAt g r)) where
     pub size-open : (n ≡ allOnes → ⊥) → sizeOf g (front g image) r ≡ holds n
     unfolding sizeOf
-    size-open ne = rw (← num-front g image 8 (sizeAt g r) (omega arith), ← e, ne-eqb n allOnes ne)
+    size-open ne = rw (num-front g image 8 (sizeAt g r) (omega arith), ← e, ne-eqb n allOnes ne)
 
     pub size-not-open : n ≡ allOnes → sizeOf g (front g image) r ≡ notOpen
     unfolding sizeOf
-    size-not-open d = rw (← num-front g image 8 (sizeAt g r) (omega arith), ← e, eq-eqb n allOnes d)
+    size-not-open d = rw (num-front g image 8 (sizeAt g r) (omega arith), ← e, eq-eqb n allOnes d)
 
     pub open-read : not (eqb n allOnes) ≡ isOpen g (front g image) r
     unfolding isOpen sizeOf
-    open-read = rw (← num-front g image 8 (sizeAt g r) (omega arith), ← e, lt-ltb r (g .entries) h) (held (eqb n allOnes))
+    open-read = rw (num-front g image 8 (sizeAt g r) (omega arith), ← e, lt-ltb r (g .entries) h) (held (eqb n allOnes))
       where
         held : (b : Bool) → not b ≡ isHeld (cond b notOpen (holds n))
         held true = refl
         held false = refl
-
-  pub past-not-open : (r : ℕ) → g .entries ≤ r → isOpen g (front g image) r ≡ false
-  unfolding isOpen
-  past-not-open r h = rw (le-ltb r (g .entries) h)
-
-  pub need-not-open : (r : ℕ) → isOpen g (front g image) r ≡ false → needOf g (front g image) r ≡ 0
-  unfolding needOf
-  need-not-open r e = rw e
-
-  pub need-open : (r : ℕ) → isOpen g (front g image) r ≡ true → needOf g (front g image) r ≡ need g (pagesOf g (front g image) r)
-  unfolding needOf
-  need-open r e = rw e
-
-  pub open-below : (r : ℕ) → isOpen g (front g image) r ≡ true → r < g .entries
-  unfolding isOpen
-  open-below r e = ltb-true _ _ (and-left (ltb r (g .entries)) (isHeld (sizeOf g (front g image) r)) e)

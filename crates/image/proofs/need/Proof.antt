@@ -3,7 +3,7 @@ use mathlib.Core.Path.{_∙_, ap, sym}
 use mathlib.Core.Bool.{not}
 use borrow.Author.Tests.{not-true, not-false}
 use Rattle.paper.specs.Geometry.{need}
-use Rattle.image.proofs.Fronts.{need-not-open, need-open, open-below}
+use Rattle.rules.proofs.Facts.{need-not-open, need-open, open-below}
 use native.Mathlib.Omega.{arith}
 use borrow.Author.Needs.{needs}
 use Rattle.image.proofs.need.Statement.{statement}
@@ -15,12 +15,12 @@ is-open-requires c κs = search needs
 returns : tie.Need-returns
 returns c =
     let a = c .before .before .before .args in
-    sym (need-not-open (a .g) (a .image .now) (a .r .0) (sym (c .before .is-open .ensures) ∙ not-true _ (c .if1 .taken)))
+    sym (need-not-open (a .g) _ (a .r .0) (sym (c .before .is-open .ensures) ∙ not-true _ (c .if1 .taken)))
 
 pages-requires : tie.Need-pages-requires
 pages-requires c κs =
     let a = c .before .before .before .args in
-    (c .before .before .before .pre, open-below (a .g) (a .image .now) (a .r .0) (sym (c .before .is-open .ensures) ∙ not-false _ (c .if1 .left)))
+    (c .before .before .before .pre, open-below (a .g) _ (a .r .0) (sym (c .before .is-open .ensures) ∙ not-false _ (c .if1 .left)))
 
 need-requires : tie.Need-need-requires
 need-requires c κs = search needs
@@ -30,7 +30,7 @@ returns-2 c =
     let a = c .before .before .before .before .before .args in
     c .need .ensures
     ∙ ap (need (a .g)) (c .before .pages .ensures)
-    ∙ sym (need-open (a .g) (a .image .now) (a .r .0) (sym (c .before .before .before .is-open .ensures) ∙ not-false _ (c .before .before .if1 .left)))
+    ∙ sym (need-open (a .g) _ (a .r .0) (sym (c .before .before .before .is-open .ensures) ∙ not-false _ (c .before .before .if1 .left)))
 
 pub need-spec : {M : Type 1} → statement M
 need-spec = tie.close (tie.spec is-open-requires returns pages-requires need-requires returns-2)

@@ -1,0 +1,4 @@
+-- The laws of the stored image, its rules and its index.
+pub mod Cells
+pub mod Facts
+pub mod Counting

@@ -1,0 +1,2 @@
+-- Rules a to e as facts, which contracts and theorems cite.
+pub mod Facts
