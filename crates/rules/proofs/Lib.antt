@@ -2,3 +2,5 @@
 pub mod Cells
 pub mod Facts
 pub mod Counting
+pub mod Bytes
+pub mod Index
