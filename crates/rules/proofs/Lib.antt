@@ -4,3 +4,4 @@ pub mod Facts
 pub mod Counting
 pub mod Bytes
 pub mod Index
+pub mod First
