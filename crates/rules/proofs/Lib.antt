@@ -5,3 +5,4 @@ pub mod Counting
 pub mod Bytes
 pub mod Index
 pub mod First
+pub mod Laid
