@@ -6,3 +6,4 @@ pub mod Bytes
 pub mod Index
 pub mod First
 pub mod Laid
+pub mod Checks

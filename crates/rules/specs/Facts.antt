@@ -1,14 +1,16 @@
 -- Rules a to e as statements over every region and block; and what the checks that come first have shown, as facts.
-use Prim.Native.Nat.{ℕ, _%_, _≤_, _<_}
-use mathlib.Core.Bool.{true, false}
+use Prim.Native.Nat.{ℕ, _+_, _*_, _%_, _≤_, _<_}
+use mathlib.Core.Bool.{Bool, true, false, _||_}
 use mathlib.Core.Path.{_≡_}
 use mathlib.Core.List.{List}
 use Rattle.laws.specs.Folds.{sumBelow}
 use Rattle.paper.specs.declared.Geometry.{Geometry}
+use lib.Dec.{eqb, leb}
 use lib.ListN.{length}
 use Rattle.paper.specs.Geometry.{fixedRegions, reclaimed, blockBytes, Allowed, noRegion, capacity, mostBookPages, frontBytes, indexBytes}
 use Rattle.paper.specs.Image.{front, stamped, taken, counter, owner, place, pagesOf, isOpen, needOf}
 use Rattle.paper.specs.Index.{indexOf}
+use Rattle.paper.specs.Refusals.{usable, touchedRight}
 
 pub record Rules (g : Geometry) (t : List ℕ) : Type 0 where
   -- a. Regions 0 to 15 are open;
@@ -60,3 +62,15 @@ pub record Ordered (g : Geometry) (image index : List ℕ) : Type 0 where
   pub long : blockBytes g ≤ length image
   pub formed : Formed g (capacity g (length image)) (front g image)
   pub recovered : index ≡ indexOf g (front g image)
+
+-- regions 1 to 15 are not the caller's
+abbrev pub callable : ℕ → Bool
+callable r = eqb r 0 || leb fixedRegions r
+
+-- a load or store of n bytes at offset o of region r is accepted
+pub record Reads (g : Geometry) (image index : List ℕ) (r o n : ℕ) : Type 0 where
+  pub entered : Entered g image index
+  pub usable : usable g (front g image) r ≡ true
+  pub fits : pagesOf g (front g image) r ≤ mostBookPages g
+  pub within : o + n ≤ pagesOf g (front g image) r * g .page
+  pub right : touchedRight g (front g image) index r o n ≡ true
