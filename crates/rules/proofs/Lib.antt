@@ -2,3 +2,8 @@
 pub mod Cells
 pub mod Facts
 pub mod Counting
+pub mod Bytes
+pub mod Index
+pub mod First
+pub mod Laid
+pub mod Checks
