@@ -8,3 +8,4 @@ pub mod First
 pub mod Laid
 pub mod Checks
 pub mod Outcomes
+pub mod Damaged
