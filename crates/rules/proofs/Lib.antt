@@ -7,3 +7,5 @@ pub mod Index
 pub mod First
 pub mod Laid
 pub mod Checks
+pub mod Outcomes
+pub mod Damaged
