@@ -1,0 +1,2 @@
+-- What the exported leaf answers and leaves.
+pub mod Copy

@@ -1,0 +1,15 @@
+// The copying leaf by itself, for a host that measures it.
+ghost use mathlib.Core.Path.{_≡_};
+ghost use Rattle.leaves.specs.Copy.{answered, left};
+
+// Answers 1 and changes nothing where the lengths differ; otherwise copies, and answers 0.
+#[no_mangle]
+pub extern "C" fn leaf_copy(from: &[u8], to: &mut [u8]) -> u32
+    ensures { λ r. ⌜ (r ≡ answered (now (from .entry)) (now (to .entry))) × (now (to .exit) ≡ left (now (from .entry)) (now (to .entry))) ⌝ }
+{
+    if from.len() != to.len() {
+        return 1;
+    }
+    numbers::copy(from, to);
+    0
+}
