@@ -1,12 +1,12 @@
 -- The header and the tables as cells: what each reader reads after each write. Nothing above this file knows an offset of them.
-use Prim.Native.Nat.{ℕ, _+_, _≤_, _<_}
+use Prim.Native.Nat.{ℕ, _+_, _-_, _≤_, _<_}
 use mathlib.Core.Logic.{_≢_}
-use mathlib.Core.Path.{_≡_, refl, _∙_, ap}
-use mathlib.Core.List.{List}
+use mathlib.Core.Path.{_≡_, refl, sym, _∙_, ap}
+use mathlib.Core.List.{List, _++_}
 use native.Mathlib.Omega.{arith}
 use native.Mathlib.Decide.{decLt}
-use lib.ListN.{length}
-use lib.Seq.{getD-take, length-take-le}
+use lib.ListN.{getD, length, length-append, length-drop}
+use lib.Seq.{getD-take, getD-drop, getD-append-add, length-take-le, take-at, drop-at}
 use borrow.Author.Tests.{ne-eqb}
 use Rattle.laws.specs.Bytes.{num, le, splice, put}
 use Rattle.laws.proofs.Lists.{take-splice, drop-splice-before, take-splice-after}
@@ -303,3 +303,22 @@ module _ (g : Geometry) (image : List ℕ) (fits : frontBytes g ≤ length image
   unfolding setEntry
   rest-setEntry =
       rest-put g owned owned-fits 2 (entryAt g b + 2) p (omega arith) ∙ rest-put g image fits 2 (entryAt g b) r (omega arith)
+
+-- ---- a front u put before the rest of an image
+module _ (g : Geometry) (u image : List ℕ) (full : length u ≡ frontBytes g) where
+  pub front-joined : front g (u ++ rest g image) ≡ u
+  front-joined = take-at u (rest g image) (frontBytes g) full
+
+  pub rest-joined : rest g (u ++ rest g image) ≡ rest g image
+  rest-joined = drop-at u (rest g image) (frontBytes g) full
+
+  pub length-joined : frontBytes g ≤ length image → length (u ++ rest g image) ≡ length image
+  length-joined fits = simp (length-append, length-drop) (omega arith)
+
+  -- a byte past the front
+  pub byte-joined : (i : ℕ) → frontBytes g ≤ i → getD (u ++ rest g image) i 0 ≡ getD image i 0
+  byte-joined i h =
+      let k = i - frontBytes g in
+      let e : length u + k ≡ i = omega arith in
+      let f : frontBytes g + k ≡ i = omega arith in
+      rw (← e) (getD-append-add u (rest g image) k 0 ∙ getD-drop (frontBytes g) image k 0 ∙ ap (λ n. getD image n 0) (f ∙ sym e))

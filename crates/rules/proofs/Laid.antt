@@ -8,8 +8,8 @@ use native.Mathlib.Nat.{zero-mod}
 use native.Mathlib.Decide.{decLt}
 use borrow.Author.Tests.{lt-ltb, le-ltb}
 use lib.Dec.{ltb}
-use lib.ListN.{drop, length, length-append, length-drop, replicate}
-use lib.Seq.{drop-drop, drop-append-add, take-at, drop-at}
+use lib.ListN.{drop, length, length-append, replicate}
+use lib.Seq.{drop-drop, drop-append-add, drop-at}
 use Rattle.laws.specs.Folds.{listFrom, joinBelow}
 use Rattle.laws.specs.Bytes.{value, num, le}
 use Rattle.laws.proofs.Folds.{sum-ext, sum-zero}
@@ -17,12 +17,13 @@ use Rattle.laws.proofs.Lists.{listFrom-ext, join-ext, length-rows, drop-rows}
 use Rattle.laws.proofs.Bytes.{length-le, value-le}
 use Rattle.paper.specs.declared.Geometry.{Geometry}
 use Rattle.paper.specs.Geometry.{fixedRegions, reclaimed, allOnes, blockBytes, Allowed, noRegion, capacity, mostBookPages, entryAt, sizeAt, frontBytes}
-use Rattle.paper.specs.Image.{notOpen, holds, pagesIn, front, rest, stamped, taken, counter, owner, place, sizeOf, pagesOf, isOpen, needOf}
+use Rattle.paper.specs.Image.{notOpen, holds, pagesIn, rest, stamped, taken, counter, owner, place, sizeOf, pagesOf, isOpen, needOf}
 use Rattle.paper.specs.Index.{startOf, blocksOf, indexNumbers, indexOf, emptyIndex}
 use Rattle.paper.specs.Calls.{laidHeader, laidEntry, laidSize, laid}
 use Rattle.paper.specs.Refusals.{wellFormed}
 use Rattle.paper.proofs.Counting.{need-zero}
 use Rattle.rules.specs.Facts.{Rules, Header, Formed}
+use Rattle.rules.proofs.Cells.{front-joined, length-joined}
 use Rattle.rules.proofs.Facts.{open-below, is-open, is-not-open, is-past, need-open, need-not-open}
 use Rattle.rules.proofs.First.{image-formed}
 
@@ -184,13 +185,8 @@ module _ (g : Geometry) (A : Allowed g) where
 
   -- ---- a laid image, whatever stands after the front
   module _ (image index : List ℕ) (long : blockBytes g ≤ length image) where
-    pub front-laid : front g (laid g ++ rest g image) ≡ laid g
-    front-laid = take-at (laid g) (rest g image) (frontBytes g) length-laid
-
-    length-image : length (laid g ++ rest g image) ≡ length image
-    length-image = simp (length-append, length-drop, length-laid) (omega (arith, A .reserve))
-
     pub laid-wellFormed : wellFormed g (laid g ++ rest g image) index ≡ true
     laid-wellFormed =
-        image-formed g (laid g ++ rest g image) index A (omega (arith, length-image))
-        (rw front-laid (laid-formed (capacity g (length (laid g ++ rest g image)))))
+        let x = laid g ++ rest g image in
+        let l = length-joined g (laid g) image length-laid (omega (arith, A .reserve)) in
+        image-formed g x index A (omega (arith, l)) (rw (front-joined g (laid g) image length-laid) (laid-formed (capacity g (length x))))

@@ -7,5 +7,6 @@ pub mod Index
 pub mod First
 pub mod Laid
 pub mod Checks
+pub mod Touched
 pub mod Outcomes
 pub mod Damaged
