@@ -2,9 +2,13 @@
 ghost use mathlib.Core.Path.{_≡_};
 ghost use Prim.Native.Nat.{ℕ, _+_, _<_, _≤_};
 ghost use lib.ListN.{length};
+ghost use mathlib.Core.Bool.{not};
+ghost use lib.Dec.{eqb};
 ghost use Rattle.laws.specs.Folds.{allBelow, allFrom};
-ghost use Rattle.paper.specs.Geometry.{fixedRegions, reclaimed};
-ghost use Rattle.paper.specs.Image.{front, taken, counter, owner, place, pagesOf, isOpen, needOf, setTaken, setCounter, setEntry, setPages, setNotOpen};
+ghost use Rattle.paper.specs.Geometry.{fixedRegions, noRegion};
+ghost use Rattle.paper.specs.Image.{front, stamped, taken, counter, owner, place, names, pagesOf, isOpen, needOf, setTaken, setCounter, setEntry, setPages, setNotOpen};
+ghost use Rattle.paper.specs.WellFormed.{ruleA, fits, ruleB, ruleC, named, ruleE};
+ghost use Rattle.paper.specs.Refusals.{headerRight};
 ghost use Rattle.image.specs.Readable.{Readable, fronted};
 use paper::Block;
 use paper::Geometry;
@@ -117,4 +121,180 @@ pub fn set_not_open(g: Geometry, image: &mut [u8], r: Region)
     ensures { λ _. ⌜ now (image .exit) ≡ fronted g (setNotOpen g (r .0) (front g (now (image .entry)))) (now (image .entry)) ⌝ }
 {
     numbers::write_u64(image, g.size_at(r), paper::ALL_ONES);
+}
+
+// ---- the header checked
+
+fn stamped(g: Geometry, image: &[u8]) -> bool
+    requires { ⌜ Readable g (now image) ⌝ }
+    ensures { λ t. ⌜ t ≡ stamped g (front g (now (image .entry))) ⌝ }
+{
+    if numbers::read_u32(image, paper::MARKER_AT) != 0 {
+        return false;
+    }
+    if numbers::read_u32(image, paper::VERSION_AT) != paper::VERSION {
+        return false;
+    }
+    numbers::read_u32(image, paper::BLANK_AT) == 0
+}
+
+pub fn header_right(g: Geometry, image: &[u8]) -> bool
+    requires { ⌜ Readable g (now image) ⌝ }
+    ensures { λ t. ⌜ t ≡ headerRight g (front g (now (image .entry))) ⌝ }
+{
+    if !stamped(g, image) {
+        return false;
+    }
+    if g.blocks < taken(g, image) as usize {
+        return false;
+    }
+    let c = counter(g, image) as usize;
+    if c < paper::FIXED_REGIONS {
+        return false;
+    }
+    c <= g.no_region()
+}
+
+// ---- the rules a to e checked, each in one pass
+
+// Regions 2 to 15 are kept back.
+const FIRST_KEPT: usize = 2;
+
+fn low_open(g: Geometry, image: &[u8]) -> bool
+    requires { ⌜ Readable g (now image) ⌝ }
+    ensures { λ t. ⌜ t ≡ allBelow fixedRegions (isOpen g (front g (now (image .entry)))) ⌝ }
+{
+    for r in 0..paper::FIXED_REGIONS {
+        if !is_open(g, image, Region(r as u32)) {
+            return false;
+        }
+    }
+    true
+}
+
+fn high_not_open(g: Geometry, image: &[u8]) -> bool
+    requires { ⌜ Readable g (now image) ⌝ }
+    ensures { λ t. ⌜ t ≡ allFrom (counter g (front g (now (image .entry)))) (g .entries) (λ r. not (isOpen g (front g (now (image .entry))) r)) ⌝ }
+{
+    let c = counter(g, image) as usize;
+    for r in c..g.entries {
+        if is_open(g, image, Region(r as u32)) {
+            return false;
+        }
+    }
+    true
+}
+
+pub fn rule_a(g: Geometry, image: &[u8]) -> bool
+    requires { ⌜ Readable g (now image) ⌝ }
+    ensures { λ t. ⌜ t ≡ ruleA g (front g (now (image .entry))) ⌝ }
+{
+    if !low_open(g, image) {
+        return false;
+    }
+    high_not_open(g, image)
+}
+
+// A region that is not open reads as 0 pages, and fits.
+fn all_fit(g: Geometry, image: &[u8]) -> bool
+    requires { ⌜ Readable g (now image) ⌝ }
+    ensures { λ t. ⌜ t ≡ allBelow (g .entries) (fits g (front g (now (image .entry)))) ⌝ }
+{
+    let most = g.most_book_pages();
+    for r in 0..g.entries {
+        if most < pages(g, image, Region(r as u32)).0 {
+            return false;
+        }
+    }
+    true
+}
+
+fn kept_empty(g: Geometry, image: &[u8]) -> bool
+    requires { ⌜ Readable g (now image) ⌝ }
+    ensures { λ t. ⌜ t ≡ allFrom 2 fixedRegions (λ r. eqb (pagesOf g (front g (now (image .entry))) r) 0) ⌝ }
+{
+    for r in FIRST_KEPT..paper::FIXED_REGIONS {
+        if pages(g, image, Region(r as u32)).0 != 0 {
+            return false;
+        }
+    }
+    true
+}
+
+pub fn rule_b(g: Geometry, image: &[u8]) -> bool
+    requires { ⌜ Readable g (now image) ⌝ }
+    ensures { λ t. ⌜ t ≡ ruleB g (front g (now (image .entry))) ⌝ }
+{
+    if !all_fit(g, image) {
+        return false;
+    }
+    if pages(g, image, paper::RECLAIMED).0 % g.pages as u64 != 0 {
+        return false;
+    }
+    kept_empty(g, image)
+}
+
+// What is left of N is counted down: the sum of the needs could wrap.
+pub fn rule_c(g: Geometry, image: &[u8]) -> bool
+    requires { ⌜ Readable g (now image) ⌝ }
+    ensures { λ t. ⌜ t ≡ ruleC g (front g (now (image .entry))) ⌝ }
+{
+    let mut left = taken(g, image) as u64;
+    for r in 0..g.entries {
+        let n = need(g, image, Region(r as u32));
+        if left < n {
+            return false;
+        }
+        left -= n;
+    }
+    left == 0
+}
+
+// A region that is not open needs no block, so that no position lies below its need.
+fn named(g: Geometry, image: &[u8], b: Block) -> bool
+    requires { ⌜ Readable g (now image) ⌝ }
+    requires { ⌜ b .0 < g .blocks ⌝ }
+    ensures { λ t. ⌜ t ≡ named g (front g (now (image .entry))) (b .0) ⌝ }
+{
+    let r = owner(g, image, b);
+    (place(g, image, b) as u64) < need(g, image, r)
+}
+
+// Rule d but for its last sentence.
+pub fn all_named(g: Geometry, image: &[u8]) -> bool
+    requires { ⌜ Readable g (now image) ⌝ }
+    requires { ⌜ taken g (front g (now image)) ≤ g .blocks ⌝ }
+    ensures { λ t. ⌜ t ≡ allBelow (taken g (front g (now (image .entry)))) (named g (front g (now (image .entry)))) ⌝ }
+{
+    let n = taken(g, image);
+    for b in 0..n {
+        if !named(g, image, Block(b)) {
+            return false;
+        }
+    }
+    true
+}
+
+fn names_none(g: Geometry, image: &[u8], b: Block) -> bool
+    requires { ⌜ Readable g (now image) ⌝ }
+    requires { ⌜ b .0 < g .blocks ⌝ }
+    ensures { λ t. ⌜ t ≡ names g (front g (now (image .entry))) (noRegion g) 0 (b .0) ⌝ }
+{
+    if owner(g, image, b).0 as usize != g.no_region() {
+        return false;
+    }
+    place(g, image, b) == 0
+}
+
+pub fn rule_e(g: Geometry, image: &[u8]) -> bool
+    requires { ⌜ Readable g (now image) ⌝ }
+    ensures { λ t. ⌜ t ≡ ruleE g (front g (now (image .entry))) ⌝ }
+{
+    let n = taken(g, image) as usize;
+    for b in n..g.blocks {
+        if !names_none(g, image, Block(b as u16)) {
+            return false;
+        }
+    }
+    true
 }
