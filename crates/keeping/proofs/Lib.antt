@@ -1,4 +1,8 @@
 -- What a store does to a book; and that open, grow and release keep the rules.
+pub mod General
 pub mod Stored
 pub mod Loaded
 pub mod Books
+pub mod Writes
+pub mod Reassigned
+pub mod Grant

@@ -1,9 +1,9 @@
 -- Bytes loaded from a book: each by itself, part by part, and within one block.
-use Prim.Native.Nat.{ℕ, zero, suc, _+_, _*_, _/_, _%_, _≤_, _<_}
+use Prim.Native.Nat.{ℕ, _+_, _*_, _/_, _%_, _≤_, _<_}
 use mathlib.Core.Path.{_≡_, refl, sym, _∙_, ap}
-use mathlib.Core.List.{List, [], _∷_, _++_}
+use mathlib.Core.List.{List, [], _++_}
 use native.Mathlib.Omega.{arith}
-use native.Mathlib.Nat.{zero-add, add-zero, suc-add, add-assoc, div-add-mod', mod-lt}
+use native.Mathlib.Nat.{zero-add, add-assoc, div-add-mod', mod-lt}
 use lib.Arith.{digits-div, digits-mod}
 use lib.ListN.{take, drop, getD, length, length-take, length-drop}
 use lib.Seq.{getD-take, getD-drop, ext-getD}
@@ -13,13 +13,7 @@ use Rattle.paper.specs.declared.Geometry.{Geometry}
 use Rattle.paper.specs.Geometry.{blockBytes, Allowed, dataAt}
 use Rattle.paper.specs.Calls.{addressOf, loaded}
 use Rattle.paper.proofs.Counting.{block-positive}
-
-listFrom-add : (m n i : ℕ) (f : ℕ → ℕ) → listFrom i (m + n) f ≡ listFrom i m f ++ listFrom (i + m) n f
-unfolding listFrom
-listFrom-add zero n i f = rw (zero-add, add-zero)
-listFrom-add (suc m) n i f =
-    let e : suc i + m ≡ i + suc m = omega arith in
-    rw suc-add (ap (λ l. f i ∷ l) (listFrom-add m n (suc i) f ∙ rw e))
+use Rattle.keeping.proofs.General.{listFrom-add}
 
 module _ (g : Geometry) (at : ℕ → ℕ) where
   pub length-loaded : (o n : ℕ) (image : List ℕ) → length (loaded g at o n image) ≡ n

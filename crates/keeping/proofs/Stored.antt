@@ -5,7 +5,7 @@ use mathlib.Core.Logic.{_≢_}
 use mathlib.Core.Path.{_≡_, refl, sym, _∙_, ap}
 use mathlib.Core.List.{List}
 use native.Mathlib.Omega.{arith}
-use native.Mathlib.Nat.{not-suc-le-zero, add-zero, add-suc, suc-mul, mul-le-mul-right, div-mul-le-self}
+use native.Mathlib.Nat.{not-suc-le-zero, add-zero, suc-mul, mul-le-mul-right, div-mul-le-self}
 use native.Mathlib.Decide.{ℕ-discrete, decLt, decLe}
 use borrow.Author.Tests.{lt-ltb, le-ltb, le-leb, lt-leb}
 use lib.Dec.{leb, ltb}
@@ -21,6 +21,7 @@ use Rattle.paper.specs.Calls.{stretch, stored}
 use Rattle.paper.specs.Refusals.{touched}
 use Rattle.paper.proofs.Counting.{block-after, block-order}
 use Rattle.rules.proofs.Touched.{touched-ends}
+use Rattle.keeping.proofs.General.{steps-ext, steps-same, steps-add}
 
 -- byte i after ys was laid at o over old
 abbrev pub over : ℕ → List ℕ → ℕ → ℕ → ℕ
@@ -181,22 +182,6 @@ module _ (g : Geometry) (at : ℕ → ℕ) (o : ℕ) (ys : List ℕ) where
                 stretch-other n x fit (at p) j h (λ z. omega (arith, apart p n (omega arith) (omega arith) z)) ∙ X .here p j l h
             on p j h (top d) =
                 rw d (stretch-here n x fit j h ∙ ap (over o ys (n * bb + j)) (X .other (at n) j h (λ p l z. omega (arith, apart n p (omega arith) (omega arith) z))))
-
--- ---- folds of steps
-steps-ext : (n : ℕ) (f h : ℕ → List ℕ → List ℕ) (xs : List ℕ) → ((k : ℕ) (x : List ℕ) → k < n → f k x ≡ h k x) → steps n f xs ≡ steps n h xs
-unfolding steps
-steps-ext zero f h xs e = refl
-steps-ext (suc n) f h xs e = e n (steps n f xs) (omega arith) ∙ ap (h n) (steps-ext n f h xs (λ k x l. e k x (omega arith)))
-
-steps-same : (n : ℕ) (f : ℕ → List ℕ → List ℕ) (xs : List ℕ) → ((k : ℕ) (x : List ℕ) → k < n → f k x ≡ x) → steps n f xs ≡ xs
-unfolding steps
-steps-same zero f xs e = refl
-steps-same (suc n) f xs e = e n (steps n f xs) (omega arith) ∙ steps-same n f xs (λ k x l. e k x (omega arith))
-
-steps-add : (m n : ℕ) (f : ℕ → List ℕ → List ℕ) (xs : List ℕ) → steps (m + n) f xs ≡ steps n (λ k. f (m + k)) (steps m f xs)
-unfolding steps
-steps-add m zero f xs = rw add-zero
-steps-add m (suc n) f xs = rw (add-suc, steps-add m n f xs)
 
 -- ---- the same lookup gives the same bytes
 pub stored-ext : (g : Geometry) (at at′ : ℕ → ℕ) (n o : ℕ) (ys image : List ℕ) → ((p : ℕ) → p < n → at p ≡ at′ p)

@@ -5,7 +5,7 @@ use mathlib.Core.Logic.{_≢_}
 use mathlib.Core.Path.{_≡_, refl, _∙_}
 use mathlib.Core.List.{List, [], _∷_}
 use native.Mathlib.Omega.{arith}
-use native.Mathlib.Decide.{decLt}
+use native.Mathlib.Decide.{ℕ-discrete, decLt}
 use borrow.Author.Tests.{eqb-true, eqb-false, ne-eqb, ltb-true, ltb-false, lt-ltb, le-ltb, leb-true, leb-false, not-false}
 use lib.Dec.{eqb, ltb}
 use lib.ListN.{length}
@@ -40,6 +40,14 @@ module _ (g : Geometry) (t : List ℕ) (r : ℕ) where
 
 pub callable-facts : (r : ℕ) → callable r ≡ true → r ≢ 0 → fixedRegions ≤ r
 callable-facts r c ne = leb-true _ _ (rw (ne-eqb r 0 ne) at c)
+
+-- it is none of those kept back, nor region 1
+pub callable-apart : (r : ℕ) → callable r ≡ true → (q : ℕ) → 1 ≤ q → q < fixedRegions → q ≢ r
+callable-apart r c q lo hi = go (ℕ-discrete r 0)
+  where
+    go : Dec (r ≡ 0) → q ≢ r
+    go (yes e) = omega arith
+    go (no ne) = let h = callable-facts r c ne in omega arith
 
 module _ (g : Geometry) (image index : List ℕ) where
   abbrev t : List ℕ
