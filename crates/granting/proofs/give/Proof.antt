@@ -5,42 +5,30 @@ use native.Mathlib.Omega.{arith}
 use borrow.Author.Needs.{needs}
 use Rattle.granting.proofs.give.Statement.{statement}
 use Rattle.granting.proofs.give.Tie as tie
-use Rattle.granting.proofs.give.Reads as reads
-use Rattle.granting.proofs.give.Lts as lts
-use Rattle.image.proofs.set_entry.Reads as set-entry-reads
-use Rattle.image.proofs.set_pages.Reads as set-pages-reads
 
--- src/lib.rt:21:13
 cast-r : tie.Need-cast-r
 cast-r c = search needs
 
--- src/lib.rt:22:13
 cast-p : tie.Need-cast-p
 cast-p c = search needs
 
--- src/lib.rt:23:5
 set-entry-requires : tie.Need-set-entry-requires
 set-entry-requires c κs = search needs
 
--- src/lib.rt:24:14
 add-n : tie.Need-add-n
 add-n c = search needs
 
--- src/lib.rt:24:13
 mul-n : tie.Need-mul-n
 mul-n c =
     let s = c .before .before .before .before .before .before in
     record { fits = omega (arith, pages-bound (s .args .g) (s .pre .0 .allowed) (s .args .place + 1) (omega arith)) }
 
--- src/lib.rt:25:5
 set-pages-requires : tie.Need-set-pages-requires
 set-pages-requires c κs = search needs
 
--- src/lib.rt:16:1
 same-length : tie.Need-same-length
 same-length c = search needs
 
--- src/lib.rt:16:1
 returns : tie.Need-returns
 returns c =
     let s = c .before .before .before .before .before .before .before .before .before .before in

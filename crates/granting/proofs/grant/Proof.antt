@@ -8,31 +8,21 @@ use native.Mathlib.Omega.{arith}
 use borrow.Author.Needs.{needs}
 use Rattle.granting.proofs.grant.Statement.{statement}
 use Rattle.granting.proofs.grant.Tie as tie
-use Rattle.granting.proofs.grant.Reads as reads
-use Rattle.granting.proofs.grant.Lts as lts
-use Rattle.granting.proofs.grant_new.Reads as grant-new-reads
-use Rattle.granting.proofs.grant_reclaimed.Reads as grant-reclaimed-reads
-use Rattle.image.proofs.need.Reads as need-reads
 
--- src/lib.rt:75:8
 need-requires : tie.Need-need-requires
 need-requires c κs = search needs
 
--- src/lib.rt:76:9
 grant-new-requires : tie.Need-grant-new-requires
 grant-new-requires c κs = search needs
 
--- src/lib.rt:78:9
 grant-reclaimed-requires : tie.Need-grant-reclaimed-requires
 grant-reclaimed-requires c κs =
     let s = c .before .before .before .before .before .before in
     (s .pre .0, (s .pre .1, omega (arith, c .before .before .need .ensures, c .before .if1 .left)))
 
--- src/lib.rt:70:1
 same-length : tie.Need-same-length
 same-length c = search needs
 
--- src/lib.rt:70:1
 returns : tie.Need-returns
 unfolding granted
 returns c =
@@ -40,11 +30,9 @@ returns c =
     let e : needOf (s .args .g) (front (s .args .g) (s .args .image .now)) reclaimed ≡ 0 = sym (c .before .before .before .before .before .need .ensures) ∙ c .before .before .before .before .if1 .taken in
     rw (eq-eqb _ _ e) (c .before .before .grant-new .ensures)
 
--- src/lib.rt:70:1
 same-length-2 : tie.Need-same-length-2
 same-length-2 c = search needs
 
--- src/lib.rt:70:1
 returns-2 : tie.Need-returns-2
 unfolding granted
 returns-2 c =

@@ -12,9 +12,6 @@ use native.Mathlib.Omega.{arith}
 use borrow.Author.Needs.{needs}
 use Rattle.granting.proofs.grant_blocks.Statement.{statement}
 use Rattle.granting.proofs.grant_blocks.Tie as tie
-use Rattle.granting.proofs.grant_blocks.Reads as reads
-use Rattle.granting.proofs.grant_blocks.Lts as lts
-use Rattle.granting.proofs.grant.Reads as grant-reads
 
 abbrev Inv-loop : tie.InvT-loop
 Inv-loop g image₀ index region count counter₀ image counter = (counter ≤ count) × (length image ≡ length image₀) × (image ≡ fronted g (steps counter (λ k u. granted g (region .0) u) (front g image₀)) image₀)
@@ -22,13 +19,11 @@ Inv-loop g image₀ index region count counter₀ image counter = (counter ≤ c
 abbrev μ-loop : tie.MeasureT-loop
 μ-loop g image₀ index region count counter₀ image counter = count - counter
 
--- src/lib.rt:88:5
 loop-holds : tie.Need-loop-holds Inv-loop μ-loop
 loop-holds c =
     let a = c .before .before .args in
     (omega arith, refl, rw steps-none (unchanged (a .g) (a .image .now)))
 
--- src/lib.rt:89:9
 grant-requires : tie.Need-grant-requires Inv-loop μ-loop
 grant-requires c κs =
     let s = c .before .before .before .before .before in
@@ -37,15 +32,12 @@ grant-requires c κs =
     let f = front-is (a .g) (a .image .now) (x .image) (steps (x .counter) (λ k u. granted (a .g) (a .region .0) u) (front (a .g) (a .image .now))) (s .pre .0) (x .inv .1) (x .inv .2) in
     (still-readable (a .g) (a .image .now) (x .image) (s .pre .0) (x .inv .1), rw f (s .pre .1 (x .counter) (omega arith)))
 
--- src/lib.rt:88:9
 add-counter : tie.Need-add-counter Inv-loop μ-loop
 add-counter c = search needs
 
--- src/lib.rt:88:5
 loop-less : tie.Need-loop-less Inv-loop μ-loop
 loop-less c = search needs
 
--- src/lib.rt:88:5
 loop-again : tie.Need-loop-again Inv-loop μ-loop
 loop-again c =
     let s = c .before .before .before .before .before .before .before .before in
@@ -55,15 +47,13 @@ loop-again c =
       omega arith,
       w .kept .1 .0 ∙ x .inv .1,
       then (a .g) (a .image .now) (x .image) (steps (x .counter) (λ k u. granted (a .g) (a .region .0) u) (front (a .g) (a .image .now))) (s .pre .0) (x .inv .1) (x .inv .2)
-      (granted (a .g) (a .region .0)) (w .last .1 .0) (w .ensures)
-      ∙ rw (steps-more (x .counter)),
+          (granted (a .g) (a .region .0)) (w .last .1 .0) (w .ensures)
+          ∙ rw (steps-more (x .counter)),
     )
 
--- src/lib.rt:83:1
 same-length : tie.Need-same-length Inv-loop μ-loop
 same-length c = search needs
 
--- src/lib.rt:83:1
 returns : tie.Need-returns Inv-loop μ-loop
 returns c =
     let x = c .before .loop in

@@ -7,47 +7,37 @@ use native.Mathlib.Omega.{arith}
 use borrow.Author.Needs.{needs}
 use Rattle.granting.proofs.grant_new.Statement.{statement}
 use Rattle.granting.proofs.grant_new.Tie as tie
-use Rattle.granting.proofs.grant_new.Reads as reads
-use Rattle.granting.proofs.grant_new.Lts as lts
-use Rattle.granting.proofs.give.Reads as give-reads
-use Rattle.image.proofs.need.Reads as need-reads
-use Rattle.image.proofs.set_taken.Reads as set-taken-reads
-use Rattle.image.proofs.taken.Reads as taken-reads
 
--- src/lib.rt:35:9
 need-requires : tie.Need-need-requires
 need-requires c κs = search needs
 
--- src/lib.rt:36:9
 taken-requires : tie.Need-taken-requires
 taken-requires c κs = search needs
 
--- src/lib.rt:37:32
 add-set-taken : tie.Need-add-set-taken
 add-set-taken c =
     let s = c .before .before .before .before .before .before .before in
     record { fits = omega (arith, c .before .taken .ensures, s .pre .1 .0 .new (s .pre .1 .1), s .pre .0 .allowed .blocks-most) }
 
--- src/lib.rt:37:5
 set-taken-requires : tie.Need-set-taken-requires
 set-taken-requires c κs = search needs
 
--- src/lib.rt:38:5
 give-requires : tie.Need-give-requires
 give-requires c κs =
     let s = c .before .before .before .before .before .before .before .before .before .before .before in
     let G = s .pre .1 .0 in
-    let w = c .before .before .before .set-taken in
-    (still-readable (s .args .g) (s .args .image .now) (w .last .1 .0) (s .pre .0) (w .kept .1 .0), (
-      G .inside,
-      omega (arith, c .before .before .before .before .before .taken .ensures, G .new (s .pre .1 .1)),
-      omega (arith, c .before .before .before .before .before .before .before .need .ensures, G .next)))
+    let w = c .before .before .before .set-taken in (
+      still-readable (s .args .g) (s .args .image .now) (w .last .1 .0) (s .pre .0) (w .kept .1 .0),
+      (
+        G .inside,
+        omega (arith, c .before .before .before .before .before .taken .ensures, G .new (s .pre .1 .1)),
+        omega (arith, c .before .before .before .before .before .before .before .need .ensures, G .next),
+      ),
+    )
 
--- src/lib.rt:29:1
 same-length : tie.Need-same-length
 same-length c = search needs
 
--- src/lib.rt:29:1
 returns : tie.Need-returns
 unfolding grantedNew
 returns c =

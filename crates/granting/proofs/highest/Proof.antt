@@ -7,52 +7,37 @@ use native.Mathlib.Omega.{arith}
 use borrow.Author.Needs.{needs}
 use Rattle.granting.proofs.highest.Statement.{statement}
 use Rattle.granting.proofs.highest.Tie as tie
-use Rattle.granting.proofs.highest.Reads as reads
-use Rattle.granting.proofs.highest.Lts as lts
-use Rattle.image.proofs.need.Reads as need-reads
-use Rattle.numbers.proofs.read_u16.Reads as read-u16-reads
-use Rattle.paper.proofs.Geometry.slot_at.Reads as slot-at-reads
-use Rattle.paper.proofs.Geometry.start_at.Reads as start-at-reads
 
--- src/lib.rt:49:13
 need-requires : tie.Need-need-requires
 need-requires c κs = search needs
 
--- src/lib.rt:49:13
 sub-k : tie.Need-sub-k
 sub-k c = search needs
 
--- src/lib.rt:50:42
 start-at-requires : tie.Need-start-at-requires
 start-at-requires c κs = search needs
 
--- src/lib.rt:50:17
 read-u16-requires : tie.Need-read-u16-requires
 read-u16-requires c κs = search needs
 
--- src/lib.rt:50:17
 cast-start : tie.Need-cast-start
 cast-start c = search needs
 
--- src/lib.rt:51:46
 add-slot-at : tie.Need-add-slot-at
 add-slot-at c = search needs
 
--- src/lib.rt:51:36
 slot-at-requires : tie.Need-slot-at-requires
 slot-at-requires c κs =
     let s = c .before .before .before .before .before in
     let e = c .read-u16 .ensures ∙ ap (num 2 (s .args .index .now)) (c .before .start-at .ensures) in
     (s .pre .0 .0 .allowed, omega (arith, e, c .before .before .need .ensures, s .pre .1 .1 .slot))
 
--- src/lib.rt:51:11
 read-u16-requires-2 : tie.Need-read-u16-requires-2
 read-u16-requires-2 c κs =
     let s = c .before .before .before .before .before .before in
     let e = c .before .read-u16 .ensures ∙ ap (num 2 (s .args .index .now)) (c .before .before .start-at .ensures) in
     omega (arith, e, c .slot-at .ensures, c .before .before .before .need .ensures, s .pre .1 .1 .slot)
 
--- src/lib.rt:43:1
 returns : tie.Need-returns
 returns c =
     let s = c .before .before .before .before .before .before .before in
