@@ -1,0 +1,80 @@
+-- `granting::grant_reclaimed` meets its contract.
+use Prim.Native.Nat.{_+_, _-_, _*_}
+use mathlib.Core.Path.{_∙_}
+use Rattle.paper.specs.Geometry.{reclaimed}
+use Rattle.paper.specs.Image.{front, setEntry, setPages}
+use Rattle.paper.specs.Calls.{grantedReclaimed}
+use Rattle.granting.proofs.Fronts.{still-readable, then, pages-bound}
+use native.Mathlib.Omega.{arith}
+use borrow.Author.Needs.{needs}
+use Rattle.granting.proofs.grant_reclaimed.Statement.{statement}
+use Rattle.granting.proofs.grant_reclaimed.Tie as tie
+
+need-requires : tie.Need-need-requires
+need-requires c κs = search needs
+
+highest-requires : tie.Need-highest-requires
+highest-requires c κs =
+    let s = c .before .before .before .before .before in
+    ((s .pre .0, s .pre .1 .0 .long), (s .pre .1 .1, s .pre .1 .0 .again (s .pre .1 .1)))
+
+need-requires-2 : tie.Need-need-requires-2
+need-requires-2 c κs = search needs
+
+sub-k : tie.Need-sub-k
+sub-k c = search needs
+
+mul-n : tie.Need-mul-n
+mul-n c =
+    let s = c .before .before .before .before .before .before .before .before in
+    let h = s .pre .1 .0 .again (s .pre .1 .1) in
+    record { fits = omega (arith, pages-bound (s .args .g) (s .pre .0 .allowed) (c .need2 .result - 1) (omega (arith, c .need2 .ensures, h .fits))) }
+
+set-pages-requires : tie.Need-set-pages-requires
+set-pages-requires c κs = search needs
+
+give-requires : tie.Need-give-requires
+give-requires c κs =
+    let s = c .before .before .before .before .before .before .before .before .before .before .before .before .before in
+    let G = s .pre .1 .0 in
+    let h = G .again (s .pre .1 .1) in
+    let w = c .before .before .before .set-pages in (
+      still-readable (s .args .g) (s .args .image .now) (w .last .1 .0) (s .pre .0) (w .kept .1 .0),
+      (
+        G .inside,
+        omega (arith, c .before .before .before .before .before .before .before .highest .ensures, h .inside),
+        omega (arith, c .before .before .before .before .before .before .before .before .before .need .ensures, G .next),
+      ),
+    )
+
+same-length : tie.Need-same-length
+same-length c = search needs
+
+returns : tie.Need-returns
+unfolding grantedReclaimed
+returns c =
+    let s = c .before .before .before .before .before .before .before .before .before .before .before .before .before .before .before .before in
+    let a = s .args in
+    let w = c .before .before .before .before .before .before .set-pages in
+    let k = c .before .before .before .before .before .before .before .before .need2 in
+    let b = c .before .before .before .before .before .before .before .before .before .before .highest in
+    let p = c .before .before .before .before .before .before .before .before .before .before .before .before .need in
+    then (a .g) (a .image .now) (w .last .1 .0) (setPages (a .g) reclaimed ((k .result - 1) * a .g .pages) (front (a .g) (a .image .now)))
+    (s .pre .0) (w .kept .1 .0) (w .ensures)
+    (λ u. setPages (a .g) (a .region .0) ((p .result + 1) * a .g .pages) (setEntry (a .g) (b .result .0) (a .region .0) (p .result) u))
+    (c .before .before .give .last .1 .0) (c .before .before .give .ensures)
+    ∙ rw (k .ensures, p .ensures, b .ensures)
+
+pub grant-reclaimed-spec : {M : Type 1} → statement M
+grant-reclaimed-spec =
+    tie.close
+    (tie.spec
+    need-requires
+    highest-requires
+    need-requires-2
+    sub-k
+    mul-n
+    set-pages-requires
+    give-requires
+    same-length
+    returns)

@@ -1,0 +1,182 @@
+// The tables changed block by block: a block given to a book, a book's blocks given back, a region opened.
+ghost use mathlib.Core.Path.{_≡_};
+ghost use Prim.Native.Nat.{ℕ, _+_, _-_, _*_, _<_};
+ghost use lib.ListN.{length};
+ghost use Rattle.laws.specs.Folds.{steps};
+ghost use Rattle.paper.specs.Image.{front, taken, owner, place, needOf, blockOf, setEntry, setPages};
+ghost use Rattle.paper.specs.Geometry.{reclaimed, indexBytes};
+ghost use Rattle.paper.specs.Calls.{granted, grantedNew, grantedReclaimed, lowestNotOpen, nextRegion, opened, released};
+ghost use Rattle.image.specs.Readable.{Readable, fronted};
+ghost use Rattle.granting.specs.Grant.{Highest, Grantable};
+ghost use Rattle.granting.specs.Steps.{Releasable, reclaiming, raised};
+use paper::Block;
+use paper::Geometry;
+use paper::Pages;
+use paper::Region;
+
+// Block b at the region's next position, so that the region's pages fill its blocks.
+fn give(g: Geometry, image: &mut [u8], region: Region, b: Block, place: u64)
+    requires { ⌜ Readable g (now image) ⌝ }
+    requires { ⌜ (region .0 < g .entries) × (b .0 < g .blocks) × (place < g .blocks) ⌝ }
+    ensures { λ _. ⌜ now (image .exit) ≡ fronted g (setPages g (region .0) ((place + 1) * g .pages) (setEntry g (b .0) (region .0) place (front g (now (image .entry))))) (now (image .entry)) ⌝ }
+{
+    let r = region.0 as u16;
+    let p = place as u16;
+    image::set_entry(g, image, b, r, p);
+    let n = (place + 1) * g.pages as u64;
+    image::set_pages(g, image, region, Pages(n));
+}
+
+// Block N, for the region.
+fn grant_new(g: Geometry, image: &mut [u8], index: &[u8], region: Region)
+    requires { ⌜ Readable g (now image) ⌝ }
+    requires { ⌜ Grantable g (front g (now image)) (now index) (region .0) ⌝ }
+    requires { ⌜ needOf g (front g (now image)) reclaimed ≡ 0 ⌝ }
+    ensures { λ _. ⌜ now (image .exit) ≡ fronted g (grantedNew g (region .0) (front g (now (image .entry)))) (now (image .entry)) ⌝ }
+{
+    let place = image::need(g, image, region);
+    let n = image::taken(g, image);
+    image::set_taken(g, image, n + 1);
+    give(g, image, region, Block(n), place);
+}
+
+// The block that the lent index has at region 1's highest position.
+fn highest(g: Geometry, image: &[u8], index: &[u8]) -> Block
+    requires { ⌜ Readable g (now image) × (length (now index) ≡ indexBytes g) ⌝ }
+    requires { ⌜ 0 < needOf g (front g (now image)) reclaimed ⌝ }
+    requires { ⌜ Highest g (front g (now image)) (now index) ⌝ }
+    ensures { λ b. ⌜ b .0 ≡ blockOf g (front g (now (image .entry))) reclaimed (needOf g (front g (now (image .entry))) reclaimed - 1) ⌝ }
+{
+    let k = image::need(g, image, paper::RECLAIMED) as usize - 1;
+    let start = numbers::read_u16(index, g.start_at(paper::RECLAIMED)) as usize;
+    Block(numbers::read_u16(index, g.slot_at(start + k)))
+}
+
+// Region 1's highest block, for the region.
+fn grant_reclaimed(g: Geometry, image: &mut [u8], index: &[u8], region: Region)
+    requires { ⌜ Readable g (now image) ⌝ }
+    requires { ⌜ Grantable g (front g (now image)) (now index) (region .0) ⌝ }
+    requires { ⌜ 0 < needOf g (front g (now image)) reclaimed ⌝ }
+    ensures { λ _. ⌜ now (image .exit) ≡ fronted g (grantedReclaimed g (region .0) (front g (now (image .entry)))) (now (image .entry)) ⌝ }
+{
+    let place = image::need(g, image, region);
+    let b = highest(g, image, index);
+    let k = image::need(g, image, paper::RECLAIMED) - 1;
+    let n = k * g.pages as u64;
+    image::set_pages(g, image, paper::RECLAIMED, Pages(n));
+    give(g, image, region, b, place);
+}
+
+// One block more for the region: blocks come first from region 1.
+fn grant(g: Geometry, image: &mut [u8], index: &[u8], region: Region)
+    requires { ⌜ Readable g (now image) ⌝ }
+    requires { ⌜ Grantable g (front g (now image)) (now index) (region .0) ⌝ }
+    ensures { λ _. ⌜ now (image .exit) ≡ fronted g (granted g (region .0) (front g (now (image .entry)))) (now (image .entry)) ⌝ }
+{
+    if image::need(g, image, paper::RECLAIMED) == 0 {
+        grant_new(g, image, index, region);
+    } else {
+        grant_reclaimed(g, image, index, region);
+    }
+}
+
+// So many blocks more for the region.
+pub fn grant_blocks(g: Geometry, image: &mut [u8], index: &[u8], region: Region, count: u64)
+    requires { ⌜ Readable g (now image) ⌝ }
+    requires { ⌜ ((i : ℕ) → i < count → Grantable g (steps i (λ k u. granted g (region .0) u) (front g (now image))) (now index) (region .0)) ⌝ }
+    ensures { λ _. ⌜ now (image .exit) ≡ fronted g (steps count (λ k u. granted g (region .0) u) (front g (now (image .entry)))) (now (image .entry)) ⌝ }
+{
+    for _ in 0..count {
+        grant(g, image, index, region);
+    }
+}
+
+// Block b to region 1, where it is the region's: after the `spare` blocks that are there, by its position.
+fn reclaim(g: Geometry, image: &mut [u8], region: Region, spare: u16, b: Block)
+    requires { ⌜ Readable g (now image) ⌝ }
+    requires { ⌜ b .0 < g .blocks ⌝ }
+    requires { ⌜ (owner g (front g (now image)) (b .0) ≡ region .0 → spare + place g (front g (now image)) (b .0) < g .blocks) ⌝ }
+    ensures { λ _. ⌜ now (image .exit) ≡ fronted g (reclaiming g (front g (now (image .entry))) (region .0) spare (b .0) (front g (now (image .entry)))) (now (image .entry)) ⌝ }
+{
+    if image::owner(g, image, b).0 != region.0 {
+        return;
+    }
+    let p = image::place(g, image, b);
+    image::set_entry(g, image, b, paper::RECLAIMED.0 as u16, spare + p);
+}
+
+// All blocks of the region to region 1.
+fn reclaim_blocks(g: Geometry, image: &mut [u8], region: Region, spare: u16)
+    requires { ⌜ Readable g (now image) ⌝ }
+    requires { ⌜ Releasable g (front g (now image)) (region .0) ⌝ }
+    requires { ⌜ spare ≡ needOf g (front g (now image)) reclaimed ⌝ }
+    ensures { λ _. ⌜ now (image .exit) ≡ fronted g (steps (taken g (front g (now (image .entry)))) (reclaiming g (front g (now (image .entry))) (region .0) spare) (front g (now (image .entry)))) (now (image .entry)) ⌝ }
+{
+    let n = image::taken(g, image);
+    for b in 0..n {
+        reclaim(g, image, region, spare, Block(b));
+    }
+}
+
+// The book's blocks to region 1, in position order, and the region not open.
+pub fn release_tables(g: Geometry, image: &mut [u8], region: Region)
+    requires { ⌜ Readable g (now image) ⌝ }
+    requires { ⌜ Releasable g (front g (now image)) (region .0) ⌝ }
+    ensures { λ _. ⌜ now (image .exit) ≡ fronted g (released g (region .0) (front g (now (image .entry)))) (now (image .entry)) ⌝ }
+{
+    let spare = image::need(g, image, paper::RECLAIMED);
+    let more = image::need(g, image, region);
+    let n = (spare + more) * g.pages as u64;
+    reclaim_blocks(g, image, region, spare as u16);
+    image::set_pages(g, image, paper::RECLAIMED, Pages(n));
+    image::set_not_open(g, image, region);
+}
+
+// The lowest region from 16 to E-2 that is not open, or E-1 where there is none.
+fn lowest_not_open(g: Geometry, image: &[u8]) -> Region
+    requires { ⌜ Readable g (now image) ⌝ }
+    ensures { λ r. ⌜ r .0 ≡ lowestNotOpen g (front g (now (image .entry))) ⌝ }
+{
+    let end = g.no_region() as u32;
+    let mut r = paper::FIXED_REGIONS as u32;
+    while r < end {
+        if !image::is_open(g, image, Region(r)) {
+            return Region(r);
+        }
+        r += 1;
+    }
+    Region(r)
+}
+
+// The region that an open gives, or E-1.
+pub fn next_region(g: Geometry, image: &[u8]) -> Region
+    requires { ⌜ Readable g (now image) ⌝ }
+    ensures { λ r. ⌜ r .0 ≡ nextRegion g (front g (now (image .entry))) ⌝ }
+{
+    let c = image::counter(g, image);
+    if (c as usize) < g.no_region() {
+        return Region(c as u32);
+    }
+    lowest_not_open(g, image)
+}
+
+// The counter, while it gives the regions.
+fn raise_counter(g: Geometry, image: &mut [u8])
+    requires { ⌜ Readable g (now image) ⌝ }
+    ensures { λ _. ⌜ now (image .exit) ≡ fronted g (raised g (front g (now (image .entry)))) (now (image .entry)) ⌝ }
+{
+    let c = image::counter(g, image);
+    if (c as usize) < g.no_region() {
+        image::set_counter(g, image, c + 1);
+    }
+}
+
+// The region that an open gives, open and empty.
+pub fn open_tables(g: Geometry, image: &mut [u8], region: Region)
+    requires { ⌜ Readable g (now image) ⌝ }
+    requires { ⌜ (region .0 ≡ nextRegion g (front g (now image))) × (region .0 < g .entries) ⌝ }
+    ensures { λ _. ⌜ now (image .exit) ≡ fronted g (opened g (front g (now (image .entry)))) (now (image .entry)) ⌝ }
+{
+    raise_counter(g, image);
+    image::set_pages(g, image, region, Pages(0));
+}
