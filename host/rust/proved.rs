@@ -26,7 +26,9 @@ pub fn link(name: &str, variable: &str) {
 
 fn build(name: &str, variable: &str, archive: &Path) {
     if env::var_os("HOST") != env::var_os("TARGET") {
-        panic!("tools/native builds for this machine alone: build crate {name} on the target, and name its archive by {variable}");
+        panic!(
+            "tools/native builds for this machine alone: build crate {name} on the target, and name its archive by {variable}"
+        );
     }
     let root = root();
     for part in ["crates", "crates.txt", "tools/native"] {
@@ -36,7 +38,10 @@ fn build(name: &str, variable: &str, archive: &Path) {
     let run = run.unwrap_or_else(|error| panic!("{}: {error}", root.join("tools/native").display()));
     if !run.status.success() {
         let said = [run.stdout, run.stderr].concat();
-        panic!("tools/native {name} failed (set {variable} to link an archive instead):\n{}", String::from_utf8_lossy(&said));
+        panic!(
+            "tools/native {name} failed (set {variable} to link an archive instead):\n{}",
+            String::from_utf8_lossy(&said)
+        );
     }
 }
 

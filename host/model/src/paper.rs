@@ -1,0 +1,583 @@
+//! The calls as document 01 tells them.
+
+use std::collections::BTreeMap;
+use std::ops::Range;
+
+/// Page bytes S, pages in a block P, blocks B, region entries E.
+#[derive(Clone, Copy, Debug, PartialEq)]
+pub struct Geometry {
+    pub page: u64,
+    pub pages: u64,
+    pub blocks: u64,
+    pub entries: u64,
+}
+
+pub const BENCH: Geometry = Geometry { page: 64, pages: 8, blocks: 16, entries: 24 };
+pub const HOUSE: Geometry = Geometry { page: 65_536, pages: 128, blocks: 32_768, entries: 32_768 };
+
+impl Geometry {
+    /// The geometry that a host names by this number.
+    pub fn numbered(number: u32) -> Option<Geometry> {
+        match number {
+            0 => Some(BENCH),
+            1 => Some(HOUSE),
+            _ => None,
+        }
+    }
+
+    pub fn block_bytes(self) -> u64 {
+        self.page * self.pages
+    }
+
+    /// Header and both tables.
+    pub fn front_bytes(self) -> usize {
+        (16 + 4 * self.blocks + 8 * self.entries) as usize
+    }
+
+    pub fn index_bytes(self) -> usize {
+        (2 * (self.entries + 1 + self.blocks)) as usize
+    }
+
+    /// Where block b's entry stands.
+    pub fn entry_at(self, block: u64) -> usize {
+        (16 + 4 * block) as usize
+    }
+
+    /// Where the region's page count stands.
+    pub fn size_at(self, region: u64) -> usize {
+        (16 + 4 * self.blocks + 8 * region) as usize
+    }
+
+    pub fn data_at(self, block: u64) -> usize {
+        ((block + 1) * self.block_bytes()) as usize
+    }
+
+    pub fn need(self, pages: u128) -> u128 {
+        (pages + u128::from(self.pages) - 1) / u128::from(self.pages)
+    }
+
+    /// K: the data blocks that an image of so many bytes, a reserve at least, has room for.
+    pub fn capacity(self, image_bytes: usize) -> u64 {
+        self.blocks.min(image_bytes as u64 / self.block_bytes() - 1)
+    }
+
+    pub fn most_book_pages(self) -> u64 {
+        self.blocks * self.pages
+    }
+}
+
+/// A call, with the numbers it is given. The memory that it works on is lent beside it.
+#[derive(Clone, Copy, Debug, PartialEq)]
+pub enum Call {
+    Lay,
+    Open,
+    Grow { region: u32, pages: u64 },
+    Load { region: u32, offset: u64 },
+    Store { region: u32, offset: u64 },
+    Size { region: u32 },
+    Release { region: u32 },
+    Recover,
+}
+
+/// What is lent to a call. A load fills the buffer and a store reads it.
+pub struct Lent<'a> {
+    pub image: &'a mut [u8],
+    pub index: &'a mut [u8],
+    pub buffer: &'a mut [u8],
+}
+
+/// A book manager: geometry by number, a call, what is lent; answers refusal × 2^32 + value.
+pub type Manager = fn(u32, Call, Lent<'_>) -> u64;
+
+/// Every condition under which the desk says no.
+#[derive(Clone, Copy, Debug, PartialEq, Eq, PartialOrd, Ord)]
+pub enum Why {
+    Geometry,
+    IndexLength,
+    ShortImage,
+    Marker,
+    Version,
+    Spare,
+    TakenAboveBlocks,
+    CounterOutside,
+    TailMissing,
+    AFixedNotOpen,
+    AOpenFromCounter,
+    BTooManyPages,
+    BReclaimedPart,
+    BKeptBackPages,
+    CSum,
+    DRegionNotOpen,
+    DPositionBeyondNeed,
+    DSamePair,
+    EUntaken,
+    BookTooManyPages,
+    IndexDiffers,
+    SlotBeyondBlocks,
+    SlotNotTaken,
+    SlotOfAnother,
+    RegionKeptBack,
+    RegionNone,
+    RegionNotOpen,
+    ReleaseAnonymous,
+    BeyondBook,
+    NoBlocksLeft,
+    NoRegionLeft,
+    NotBlank,
+}
+
+impl Why {
+    pub const ALL: [Why; 32] = [
+        Why::Geometry,
+        Why::IndexLength,
+        Why::ShortImage,
+        Why::Marker,
+        Why::Version,
+        Why::Spare,
+        Why::TakenAboveBlocks,
+        Why::CounterOutside,
+        Why::TailMissing,
+        Why::AFixedNotOpen,
+        Why::AOpenFromCounter,
+        Why::BTooManyPages,
+        Why::BReclaimedPart,
+        Why::BKeptBackPages,
+        Why::CSum,
+        Why::DRegionNotOpen,
+        Why::DPositionBeyondNeed,
+        Why::DSamePair,
+        Why::EUntaken,
+        Why::BookTooManyPages,
+        Why::IndexDiffers,
+        Why::SlotBeyondBlocks,
+        Why::SlotNotTaken,
+        Why::SlotOfAnother,
+        Why::RegionKeptBack,
+        Why::RegionNone,
+        Why::RegionNotOpen,
+        Why::ReleaseAnonymous,
+        Why::BeyondBook,
+        Why::NoBlocksLeft,
+        Why::NoRegionLeft,
+        Why::NotBlank,
+    ];
+
+    /// The refusal's number.
+    pub fn number(self) -> u64 {
+        use Why::*;
+        match self {
+            Geometry => 1,
+            IndexLength => 2,
+            ShortImage => 3,
+            Marker | Version | Spare | TakenAboveBlocks | CounterOutside => 4,
+            TailMissing => 5,
+            AFixedNotOpen | AOpenFromCounter | BTooManyPages | BReclaimedPart | BKeptBackPages | CSum
+            | DRegionNotOpen | DPositionBeyondNeed | DSamePair | EUntaken | BookTooManyPages => 6,
+            IndexDiffers | SlotBeyondBlocks | SlotNotTaken | SlotOfAnother => 7,
+            RegionKeptBack | RegionNone | RegionNotOpen | ReleaseAnonymous => 8,
+            BeyondBook => 9,
+            NoBlocksLeft => 10,
+            NoRegionLeft => 11,
+            NotBlank => 12,
+        }
+    }
+}
+
+/// What an accepted call answers, and the data bytes of the image that it read or wrote.
+pub struct Done {
+    pub value: u64,
+    pub touched: Vec<Range<usize>>,
+}
+
+pub type Outcome = Result<Done, Why>;
+
+/// The one number that a host is answered.
+pub fn answered(outcome: &Outcome) -> u64 {
+    match outcome {
+        Ok(done) => done.value,
+        Err(why) => why.number() << 32,
+    }
+}
+
+fn done(value: u64) -> Outcome {
+    Ok(Done { value, touched: Vec::new() })
+}
+
+fn refuse(condition: bool, why: Why) -> Result<(), Why> {
+    if condition { Err(why) } else { Ok(()) }
+}
+
+/// The little-endian number in these bytes.
+pub fn number(bytes: &[u8]) -> u64 {
+    bytes.iter().rev().fold(0, |so_far, byte| so_far * 256 + u64::from(*byte))
+}
+
+/// Writes a number little-endian over all of these bytes.
+pub fn put(bytes: &mut [u8], mut value: u64) {
+    for byte in bytes {
+        *byte = (value % 256) as u8;
+        value /= 256;
+    }
+}
+
+pub const NOT_OPEN: u64 = u64::MAX;
+pub const UNUSED_SLOT: u64 = 65_535;
+
+/// The counts and both tables of an image. A book that is not open has no page count.
+#[derive(Clone, Debug, PartialEq)]
+pub struct Tables {
+    pub taken: u64,
+    pub counter: u64,
+    pub blocks: Vec<(u64, u64)>,
+    pub books: Vec<Option<u64>>,
+}
+
+impl Tables {
+    pub fn empty(g: Geometry) -> Tables {
+        Tables {
+            taken: 0,
+            counter: 16,
+            blocks: vec![(g.entries - 1, 0); g.blocks as usize],
+            books: (0..g.entries).map(|region| (region < 16).then_some(0)).collect(),
+        }
+    }
+
+    pub fn read(g: Geometry, image: &[u8]) -> Tables {
+        let entry = |block| {
+            let at = g.entry_at(block);
+            (number(&image[at..at + 2]), number(&image[at + 2..at + 4]))
+        };
+        Tables {
+            taken: number(&image[8..10]),
+            counter: number(&image[10..12]),
+            blocks: (0..g.blocks).map(entry).collect(),
+            books: (0..g.entries).map(|region| pages_of(g, image, region)).collect(),
+        }
+    }
+
+    /// Writes the whole header and both tables.
+    pub fn write(&self, g: Geometry, image: &mut [u8]) {
+        put(&mut image[0..4], 0);
+        put(&mut image[4..8], 2);
+        put(&mut image[8..10], self.taken);
+        put(&mut image[10..12], self.counter);
+        put(&mut image[12..16], 0);
+        for (block, (region, position)) in (0..).zip(&self.blocks) {
+            let at = g.entry_at(block);
+            put(&mut image[at..at + 2], *region);
+            put(&mut image[at + 2..at + 4], *position);
+        }
+        for (region, pages) in (0..).zip(&self.books) {
+            let at = g.size_at(region);
+            put(&mut image[at..at + 8], pages.unwrap_or(NOT_OPEN));
+        }
+    }
+
+    pub fn need_of(&self, g: Geometry, region: u64) -> u128 {
+        self.books[region as usize].map_or(0, |pages| g.need(u128::from(pages)))
+    }
+
+    /// Refusal 6: rules a to e.
+    pub fn well_formed(&self, g: Geometry) -> Result<(), Why> {
+        let open = |region: u64| self.books.get(region as usize).is_some_and(|book| book.is_some());
+        refuse(!(0..16).all(open), Why::AFixedNotOpen)?;
+        refuse((self.counter..g.entries).any(open), Why::AOpenFromCounter)?;
+        refuse(self.books.iter().flatten().any(|pages| *pages > g.most_book_pages()), Why::BTooManyPages)?;
+        refuse(self.books[1].is_some_and(|pages| pages % g.pages != 0), Why::BReclaimedPart)?;
+        refuse(self.books[2..16].iter().any(|book| *book != Some(0)), Why::BKeptBackPages)?;
+        let needs: u128 = (0..g.entries).map(|region| self.need_of(g, region)).sum();
+        refuse(needs != u128::from(self.taken), Why::CSum)?;
+        let mut seen = BTreeMap::new();
+        for (block, (region, position)) in self.blocks[..self.taken as usize].iter().enumerate() {
+            refuse(!open(*region), Why::DRegionNotOpen)?;
+            refuse(u128::from(*position) >= self.need_of(g, *region), Why::DPositionBeyondNeed)?;
+            refuse(seen.insert((*region, *position), block).is_some(), Why::DSamePair)?;
+        }
+        let untaken = |entry: &(u64, u64)| *entry == (g.entries - 1, 0);
+        refuse(!self.blocks[self.taken as usize..].iter().all(untaken), Why::EUntaken)
+    }
+
+    /// The index of well-formed tables.
+    pub fn recovered(&self, g: Geometry) -> Vec<u8> {
+        let mut numbers = vec![0];
+        for region in 0..g.entries {
+            numbers.push(numbers[region as usize] + self.need_of(g, region) as u64);
+        }
+        // A map hands its keys out in order: region by region, and by position.
+        let taken = self.blocks[..self.taken as usize].iter().zip(0..);
+        let by_place: BTreeMap<(u64, u64), u64> = taken.map(|(entry, block)| (*entry, block)).collect();
+        numbers.extend(by_place.values());
+        numbers.resize((g.entries + 1 + g.blocks) as usize, UNUSED_SLOT);
+        numbers.iter().flat_map(|number| (*number as u16).to_le_bytes()).collect()
+    }
+
+    fn block_of(&self, region: u64, position: u64) -> u64 {
+        let found = self.blocks[..self.taken as usize].iter().position(|entry| *entry == (region, position));
+        found.expect("well-formed tables have a block for each position") as u64
+    }
+}
+
+/// The pages of a book, if it is open.
+pub fn pages_of(g: Geometry, image: &[u8], region: u64) -> Option<u64> {
+    let at = g.size_at(region);
+    let pages = number(&image[at..at + 8]);
+    (pages != NOT_OPEN).then_some(pages)
+}
+
+// The table of refusals, row by row.
+
+fn check_1(geometry: u32) -> Result<Geometry, Why> {
+    Geometry::numbered(geometry).ok_or(Why::Geometry)
+}
+
+fn check_2(g: Geometry, index: &[u8]) -> Result<(), Why> {
+    refuse(index.len() != g.index_bytes(), Why::IndexLength)
+}
+
+fn check_3(g: Geometry, image: &[u8]) -> Result<(), Why> {
+    refuse((image.len() as u64) < g.block_bytes(), Why::ShortImage)
+}
+
+fn check_4(g: Geometry, image: &[u8]) -> Result<(), Why> {
+    refuse(number(&image[0..4]) != 0, Why::Marker)?;
+    refuse(number(&image[4..8]) != 2, Why::Version)?;
+    refuse(number(&image[12..16]) != 0, Why::Spare)?;
+    refuse(number(&image[8..10]) > g.blocks, Why::TakenAboveBlocks)?;
+    let counter = number(&image[10..12]);
+    refuse(counter < 16 || counter > g.entries - 1, Why::CounterOutside)
+}
+
+fn check_5(g: Geometry, image: &[u8]) -> Result<(), Why> {
+    refuse(g.capacity(image.len()) < number(&image[8..10]), Why::TailMissing)
+}
+
+fn checks_3_to_5(g: Geometry, image: &[u8]) -> Result<(), Why> {
+    check_3(g, image)?;
+    check_4(g, image)?;
+    check_5(g, image)
+}
+
+fn check_6(g: Geometry, image: &[u8]) -> Result<Tables, Why> {
+    let tables = Tables::read(g, image);
+    tables.well_formed(g)?;
+    Ok(tables)
+}
+
+fn check_6_book(g: Geometry, pages: u64) -> Result<(), Why> {
+    refuse(pages > g.most_book_pages(), Why::BookTooManyPages)
+}
+
+fn check_7(g: Geometry, tables: &Tables, index: &[u8]) -> Result<(), Why> {
+    refuse(tables.recovered(g) != index, Why::IndexDiffers)
+}
+
+/// A stretch of a book that lies in one block: where in the image, and where in what is asked.
+struct Stretch {
+    image: Range<usize>,
+    buffer: Range<usize>,
+}
+
+/// Refusal 7 of a load or store; where it does not apply, the stretches that are asked for.
+fn check_7_touched(
+    g: Geometry,
+    image: &[u8],
+    index: &[u8],
+    region: u64,
+    offset: u64,
+    bytes: u64,
+) -> Result<Vec<Stretch>, Why> {
+    let numbered = |place: u64| number(&index[2 * place as usize..2 * place as usize + 2]);
+    let mut stretches = Vec::new();
+    let mut past = 0;
+    while past < bytes {
+        let position = (offset + past) / g.block_bytes();
+        let within = (offset + past) % g.block_bytes();
+        let slot = numbered(region) + position;
+        refuse(slot >= g.blocks, Why::SlotBeyondBlocks)?;
+        let block = numbered(g.entries + 1 + slot);
+        refuse(block >= number(&image[8..10]), Why::SlotNotTaken)?;
+        let entry = g.entry_at(block);
+        let named = (number(&image[entry..entry + 2]), number(&image[entry + 2..entry + 4]));
+        refuse(named != (region, position), Why::SlotOfAnother)?;
+        let count = (bytes - past).min(g.block_bytes() - within);
+        let from = g.data_at(block) + within as usize;
+        stretches.push(Stretch { image: from..from + count as usize, buffer: past as usize..(past + count) as usize });
+        past += count;
+    }
+    Ok(stretches)
+}
+
+/// Refusal 8; where it does not apply, the book's pages.
+fn check_8(g: Geometry, image: &[u8], region: u32) -> Result<u64, Why> {
+    let region = u64::from(region);
+    refuse((1..=15).contains(&region), Why::RegionKeptBack)?;
+    refuse(region >= g.entries - 1, Why::RegionNone)?;
+    pages_of(g, image, region).ok_or(Why::RegionNotOpen)
+}
+
+fn check_9(g: Geometry, pages: u64, offset: u64, bytes: usize) -> Result<(), Why> {
+    let end = u128::from(offset) + bytes as u128;
+    refuse(end > u128::from(pages) * u128::from(g.page), Why::BeyondBook)
+}
+
+fn check_12(image: &[u8]) -> Result<(), Why> {
+    refuse(image[..16].iter().any(|byte| *byte != 0), Why::NotBlank)
+}
+
+/// Makes the call on the paper's terms.
+pub fn call(geometry: u32, call: Call, lent: Lent<'_>) -> Outcome {
+    let Lent { image, index, buffer } = lent;
+    match call {
+        Call::Lay => lay(geometry, image, index),
+        Call::Open => open(geometry, image, index),
+        Call::Grow { region, pages } => grow(geometry, image, index, region, pages),
+        Call::Load { region, offset } => load(geometry, image, index, region, offset, buffer),
+        Call::Store { region, offset } => store(geometry, image, index, region, offset, buffer),
+        Call::Size { region } => size(geometry, image, region),
+        Call::Release { region } => release(geometry, image, index, region),
+        Call::Recover => recover(geometry, image, index),
+    }
+}
+
+fn lay(geometry: u32, image: &mut [u8], index: &mut [u8]) -> Outcome {
+    let g = check_1(geometry)?;
+    check_2(g, index)?;
+    check_3(g, image)?;
+    check_12(image)?;
+    let tables = Tables::empty(g);
+    tables.write(g, image);
+    index.copy_from_slice(&tables.recovered(g));
+    done(0)
+}
+
+/// Checks 1 to 6, as recovery makes them.
+fn checks_1_to_6(geometry: u32, image: &[u8], index: &[u8]) -> Result<(Geometry, Tables), Why> {
+    let g = check_1(geometry)?;
+    check_2(g, index)?;
+    checks_3_to_5(g, image)?;
+    let tables = check_6(g, image)?;
+    Ok((g, tables))
+}
+
+fn checks_1_to_7(geometry: u32, image: &[u8], index: &[u8]) -> Result<(Geometry, Tables), Why> {
+    let (g, tables) = checks_1_to_6(geometry, image, index)?;
+    check_7(g, &tables, index)?;
+    Ok((g, tables))
+}
+
+fn recover(geometry: u32, image: &[u8], index: &mut [u8]) -> Outcome {
+    let (g, tables) = checks_1_to_6(geometry, image, index)?;
+    index.copy_from_slice(&tables.recovered(g));
+    done(0)
+}
+
+fn open(geometry: u32, image: &mut [u8], index: &mut [u8]) -> Outcome {
+    let (g, mut tables) = checks_1_to_7(geometry, image, index)?;
+    let region = if tables.counter < g.entries - 1 {
+        tables.counter += 1;
+        tables.counter - 1
+    } else {
+        let free = (16..=g.entries - 2).find(|region| tables.books[*region as usize].is_none());
+        free.ok_or(Why::NoRegionLeft)?
+    };
+    tables.books[region as usize] = Some(0);
+    tables.write(g, image);
+    index.copy_from_slice(&tables.recovered(g));
+    done(region)
+}
+
+fn grow(geometry: u32, image: &mut [u8], index: &mut [u8], region: u32, pages: u64) -> Outcome {
+    let (g, mut tables) = checks_1_to_7(geometry, image, index)?;
+    let old = check_8(g, image, region)?;
+    let region = u64::from(region);
+    let held = g.need(u128::from(old));
+    let new = g.need(u128::from(old) + u128::from(pages)) - held;
+    let room = tables.need_of(g, 1) + u128::from(g.capacity(image.len()) - tables.taken);
+    refuse(new > room, Why::NoBlocksLeft)?;
+    for position in held as u64..(held + new) as u64 {
+        let block = take_block(g, &mut tables);
+        tables.blocks[block as usize] = (region, position);
+    }
+    tables.books[region as usize] = Some(old + pages);
+    tables.write(g, image);
+    index.copy_from_slice(&tables.recovered(g));
+    let mut touched = Vec::new();
+    for page in old..old + pages {
+        let from = g.data_at(tables.block_of(region, page / g.pages)) + (page % g.pages * g.page) as usize;
+        image[from..from + g.page as usize].fill(0);
+        touched.push(from..from + g.page as usize);
+    }
+    Ok(Done { value: old, touched })
+}
+
+/// A block for a book that grows: region 1's highest, or else block N.
+fn take_block(g: Geometry, tables: &mut Tables) -> u64 {
+    let reclaimed = tables.need_of(g, 1) as u64;
+    if reclaimed > 0 {
+        let block = tables.block_of(1, reclaimed - 1);
+        tables.books[1] = tables.books[1].map(|pages| pages - g.pages);
+        block
+    } else {
+        tables.taken += 1;
+        tables.taken - 1
+    }
+}
+
+/// The checks of load and store, in their order; then the stretches.
+fn checks_of_bytes(
+    geometry: u32,
+    image: &[u8],
+    index: &[u8],
+    region: u32,
+    offset: u64,
+    bytes: usize,
+) -> Result<Vec<Stretch>, Why> {
+    let g = check_1(geometry)?;
+    check_2(g, index)?;
+    checks_3_to_5(g, image)?;
+    let pages = check_8(g, image, region)?;
+    check_6_book(g, pages)?;
+    check_9(g, pages, offset, bytes)?;
+    check_7_touched(g, image, index, u64::from(region), offset, bytes as u64)
+}
+
+fn load(geometry: u32, image: &[u8], index: &[u8], region: u32, offset: u64, buffer: &mut [u8]) -> Outcome {
+    let stretches = checks_of_bytes(geometry, image, index, region, offset, buffer.len())?;
+    for stretch in &stretches {
+        buffer[stretch.buffer.clone()].copy_from_slice(&image[stretch.image.clone()]);
+    }
+    Ok(Done { value: 0, touched: stretches.into_iter().map(|stretch| stretch.image).collect() })
+}
+
+fn store(geometry: u32, image: &mut [u8], index: &[u8], region: u32, offset: u64, bytes: &[u8]) -> Outcome {
+    let stretches = checks_of_bytes(geometry, image, index, region, offset, bytes.len())?;
+    for stretch in &stretches {
+        image[stretch.image.clone()].copy_from_slice(&bytes[stretch.buffer.clone()]);
+    }
+    Ok(Done { value: 0, touched: stretches.into_iter().map(|stretch| stretch.image).collect() })
+}
+
+fn size(geometry: u32, image: &[u8], region: u32) -> Outcome {
+    let g = check_1(geometry)?;
+    checks_3_to_5(g, image)?;
+    let pages = check_8(g, image, region)?;
+    check_6_book(g, pages)?;
+    done(pages)
+}
+
+fn release(geometry: u32, image: &mut [u8], index: &mut [u8], region: u32) -> Outcome {
+    let (g, mut tables) = checks_1_to_7(geometry, image, index)?;
+    refuse(region == 0, Why::ReleaseAnonymous)?;
+    check_8(g, image, region)?;
+    let region = u64::from(region);
+    let reclaimed = tables.need_of(g, 1) as u64;
+    let held = tables.need_of(g, region) as u64;
+    for entry in tables.blocks.iter_mut().filter(|entry| entry.0 == region) {
+        *entry = (1, reclaimed + entry.1);
+    }
+    tables.books[1] = tables.books[1].map(|pages| pages + held * g.pages);
+    tables.books[region as usize] = None;
+    tables.write(g, image);
+    index.copy_from_slice(&tables.recovered(g));
+    done(0)
+}

@@ -1,0 +1,67 @@
+//! Well-formed tables drawn at random: books of all sizes, their blocks in any order.
+
+use crate::paper::{Geometry, Tables};
+use crate::random::Random;
+
+/// What tables are to be like.
+pub struct Wanted {
+    /// Blocks taken.
+    pub taken: u64,
+    /// Regions given out so far, from 16 up.
+    pub opened: u64,
+    /// How many in a hundred of those are not open again.
+    pub released: u64,
+}
+
+impl Wanted {
+    /// Tables of any kind for an image with room for so many blocks.
+    pub fn any(g: Geometry, capacity: u64, random: &mut Random) -> Wanted {
+        let most = g.entries - 1 - 16;
+        let taken = if random.percent(20) { capacity } else { random.between(0, capacity) };
+        let few = (2 * taken + 3).min(most);
+        Wanted {
+            taken,
+            opened: if random.percent(30) { most } else { random.between(0, few) },
+            released: if random.percent(30) { 0 } else { random.between(0, 60) },
+        }
+    }
+}
+
+pub fn drawn(g: Geometry, wanted: &Wanted, random: &mut Random) -> Tables {
+    let mut tables = Tables::empty(g);
+    tables.taken = wanted.taken;
+    tables.counter = 16 + wanted.opened;
+    for region in 16..tables.counter {
+        tables.books[region as usize] = (!random.percent(wanted.released)).then_some(0);
+    }
+    let mut held = shares(&tables, random);
+    let mut blocks: Vec<u64> = (0..wanted.taken).collect();
+    random.shuffle(&mut blocks);
+    for (region, held) in held.iter_mut().enumerate() {
+        for position in 0..*held {
+            let block = blocks.pop().expect("the shares sum to the blocks taken");
+            tables.blocks[block as usize] = (region as u64, position);
+        }
+        if *held > 0 {
+            let unfilled = if region == 1 || random.percent(30) { 0 } else { random.below(g.pages) };
+            tables.books[region] = Some(*held * g.pages - unfilled);
+        }
+    }
+    tables
+}
+
+/// How many blocks each region holds: they sum to the blocks taken.
+fn shares(tables: &Tables, random: &mut Random) -> Vec<u64> {
+    let holds = |region: &u64| !(2..16).contains(region) && tables.books[*region as usize].is_some();
+    let holders: Vec<u64> = (0..tables.books.len() as u64).filter(holds).collect();
+    let mut held = vec![0; tables.books.len()];
+    let mut left = tables.taken;
+    while left > 0 {
+        let region = random.pick(&holders);
+        let most = if random.percent(50) { 1 } else { 1 + tables.taken / 4 };
+        let share = random.between(1, most.min(left));
+        held[region as usize] += share;
+        left -= share;
+    }
+    held
+}

@@ -1,0 +1,5 @@
+mod proved;
+
+fn main() {
+    proved::link("host", "JAATURBAL_ARCHIVE");
+}

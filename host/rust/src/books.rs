@@ -1,0 +1,85 @@
+//! An image with its index.
+
+use crate::calls::{self, answer};
+use crate::{Geometry, Offset, Pages, Refusal, Region};
+
+/// An image of books, and the index that goes with it.
+///
+/// The image is anything that holds bytes: a `Vec<u8>`, memory mapped from a file, or a `&mut [u8]` that is only lent.
+/// Lend it, or keep a copy, if it is to be at hand after [`Books::lay`] or [`Books::recover`] was refused.
+#[derive(Clone, Debug)]
+pub struct Books<I = Vec<u8>> {
+    geometry: Geometry,
+    image: I,
+    index: Vec<u8>,
+}
+
+impl Books {
+    /// Empty books in a fresh image with room for so many blocks.
+    pub fn new(geometry: Geometry, blocks: usize) -> Result<Books, Refusal> {
+        Books::lay(geometry, vec![0; geometry.image_bytes(blocks)])
+    }
+}
+
+impl<I: AsRef<[u8]> + AsMut<[u8]>> Books<I> {
+    /// Empty books in an image whose first 16 bytes are zero.
+    pub fn lay(geometry: Geometry, mut image: I) -> Result<Books<I>, Refusal> {
+        let mut index = vec![0; geometry.index_bytes()];
+        answer(calls::lay(geometry.number(), image.as_mut(), &mut index))?;
+        Ok(Books { geometry, image, index })
+    }
+
+    /// The books that an image holds: the index is worked out anew.
+    pub fn recover(geometry: Geometry, image: I) -> Result<Books<I>, Refusal> {
+        let mut index = vec![0; geometry.index_bytes()];
+        answer(calls::recover(geometry.number(), image.as_ref(), &mut index))?;
+        Ok(Books { geometry, image, index })
+    }
+
+    /// Opens an empty book.
+    pub fn open(&mut self) -> Result<Region, Refusal> {
+        let region = answer(calls::open(self.geometry.number(), self.image.as_mut(), &mut self.index))?;
+        Ok(Region(region as u32))
+    }
+
+    /// Appends so many zeroed pages to a book, and tells how many it had.
+    pub fn grow(&mut self, book: Region, pages: Pages) -> Result<Pages, Refusal> {
+        let number = self.geometry.number();
+        answer(calls::grow(number, self.image.as_mut(), &mut self.index, book.0, pages.0)).map(Pages)
+    }
+
+    /// Fills the buffer with the book's bytes from an offset on.
+    pub fn load(&self, book: Region, from: Offset, buffer: &mut [u8]) -> Result<(), Refusal> {
+        let number = self.geometry.number();
+        answer(calls::load(number, self.image.as_ref(), &self.index, book.0, from.0, buffer)).map(drop)
+    }
+
+    /// Writes these bytes into the book from an offset on.
+    pub fn store(&mut self, book: Region, at: Offset, bytes: &[u8]) -> Result<(), Refusal> {
+        let number = self.geometry.number();
+        answer(calls::store(number, self.image.as_mut(), &self.index, book.0, at.0, bytes)).map(drop)
+    }
+
+    /// The pages of a book.
+    pub fn size(&self, book: Region) -> Result<Pages, Refusal> {
+        answer(calls::size(self.geometry.number(), self.image.as_ref(), book.0)).map(Pages)
+    }
+
+    /// Closes a book. Its blocks are given to books that grow later.
+    pub fn release(&mut self, book: Region) -> Result<(), Refusal> {
+        answer(calls::release(self.geometry.number(), self.image.as_mut(), &mut self.index, book.0)).map(drop)
+    }
+
+    pub fn geometry(&self) -> Geometry {
+        self.geometry
+    }
+
+    pub fn image(&self) -> &[u8] {
+        self.image.as_ref()
+    }
+
+    /// The image without its index, which [`Books::recover`] can work out again.
+    pub fn into_image(self) -> I {
+        self.image
+    }
+}

@@ -1,0 +1,37 @@
+//! The proved calls against document 01's model: every answer, and every byte of image, index and buffer.
+
+use jaaturbal::calls;
+use jaaturbal_model::paper::{Call, Lent};
+use jaaturbal_model::tally::Tally;
+use jaaturbal_model::{bench, house};
+
+fn proved(geometry: u32, call: Call, lent: Lent<'_>) -> u64 {
+    let Lent { image, index, buffer } = lent;
+    match call {
+        Call::Lay => calls::lay(geometry, image, index),
+        Call::Open => calls::open(geometry, image, index),
+        Call::Grow { region, pages } => calls::grow(geometry, image, index, region, pages),
+        Call::Load { region, offset } => calls::load(geometry, image, index, region, offset, buffer),
+        Call::Store { region, offset } => calls::store(geometry, image, index, region, offset, buffer),
+        Call::Size { region } => calls::size(geometry, image, region),
+        Call::Release { region } => calls::release(geometry, image, index, region),
+        Call::Recover => calls::recover(geometry, image, index),
+    }
+}
+
+fn report(title: &str, tally: &Tally) {
+    print!("{title}: {} calls, by answer\n{tally}", tally.total());
+    assert_eq!(tally.missing(), Vec::<String>::new(), "an answer that can be had was never given");
+}
+
+#[test]
+fn bench_histories() {
+    report("BENCH", &bench::histories(proved, 1_000_000, 1));
+}
+
+#[test]
+fn house_images() {
+    let mut tally = house::small(proved, 40, 2);
+    tally.absorb(house::full(proved, 60, 3));
+    report("HOUSE", &tally);
+}
