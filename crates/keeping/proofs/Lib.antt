@@ -6,3 +6,5 @@ pub mod Books
 pub mod Writes
 pub mod Reassigned
 pub mod Grant
+pub mod Grow
+pub mod Growth
