@@ -8,3 +8,5 @@ pub mod Reassigned
 pub mod Grant
 pub mod Grow
 pub mod Growth
+pub mod Open
+pub mod Release
