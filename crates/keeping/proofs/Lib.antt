@@ -10,3 +10,4 @@ pub mod Grow
 pub mod Growth
 pub mod Open
 pub mod Release
+pub mod Kept
