@@ -6,3 +6,8 @@ pub mod Books
 pub mod Writes
 pub mod Reassigned
 pub mod Grant
+pub mod Grow
+pub mod Growth
+pub mod Open
+pub mod Release
+pub mod Kept
