@@ -8,36 +8,39 @@ unsafe extern "C" {
     fn leaf_copy(from: *const u8, from_bytes: usize, to: *mut u8, to_bytes: usize) -> u32;
 }
 
-struct Proved {
+fn proved_copy(from: &[u8], to: &mut [u8]) {
+    // SAFETY: two slices that do not overlap, each lent with its length.
+    let answer = unsafe { leaf_copy(from.as_ptr(), from.len(), to.as_mut_ptr(), to.len()) };
+    assert_eq!(answer, 0);
+}
+
+fn plain_copy(from: &[u8], to: &mut [u8]) {
+    to.copy_from_slice(from);
+}
+
+struct Copies {
+    copy: fn(&[u8], &mut [u8]),
     from: Vec<u8>,
     to: Vec<u8>,
 }
 
-impl Subject for Proved {
-    fn call(&mut self) {
-        let (from, to) = (black_box(&self.from), black_box(&mut self.to));
-        // SAFETY: two slices that do not overlap, each lent with its length.
-        let answer = unsafe { leaf_copy(from.as_ptr(), from.len(), to.as_mut_ptr(), to.len()) };
-        assert_eq!(answer, 0);
+impl Subject for Copies {
+    fn calls(&self) -> usize {
+        8
     }
-}
 
-struct Plain {
-    from: Vec<u8>,
-    to: Vec<u8>,
-}
-
-impl Subject for Plain {
-    fn call(&mut self) {
-        black_box(&mut self.to).copy_from_slice(black_box(&self.from));
+    fn run(&mut self) {
+        for _ in 0..self.calls() {
+            (self.copy)(black_box(&self.from), black_box(&mut self.to));
+        }
     }
 }
 
 pub fn copies(bytes: usize) -> Compared {
-    let from: Vec<u8> = (0..bytes).map(|i| (i * 167 + 13) as u8).collect();
-    let mut proved = Proved { from: from.clone(), to: vec![0; bytes] };
-    let mut plain = Plain { from, to: vec![0; bytes] };
+    let from: Vec<u8> = (0..bytes).map(|place| (place * 167 + 13) as u8).collect();
+    let copies = |copy| Copies { copy, from: from.clone(), to: vec![0; bytes] };
+    let (mut proved, mut plain) = (copies(proved_copy), copies(plain_copy));
     let compared = compare(&mut proved, &mut plain);
-    assert_eq!(proved.to, plain.to);
+    assert_eq!((&proved.to, &plain.to), (&from, &from));
     compared
 }

@@ -1,5 +1,9 @@
 //! The proved calls against plain Rust with the same checks.
 
+pub mod bytes;
 pub mod leaf;
+pub mod manager;
 pub mod plain;
+pub mod report;
+pub mod tables;
 pub mod timing;

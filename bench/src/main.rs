@@ -1,9 +1,44 @@
-use jaaturbal_bench::leaf;
+//! Prints the table, and writes the plot that docs/ shows.
+
+use std::cell::RefCell;
+use std::fs;
+use std::path::Path;
+
+use jaaturbal_bench::bytes::{self, Lie, Sheets};
+use jaaturbal_bench::manager::{GROW, LOAD, OPEN, RECOVER, RELEASE, STORE};
+use jaaturbal_bench::report::{Row, plot, table};
+use jaaturbal_bench::tables::{self, Ledger};
+use jaaturbal_bench::{leaf, timing::Compared};
+
+const SIZES: [(usize, &str); 3] = [(16, "16 bytes"), (4_096, "4 KiB"), (1 << 20, "1 MiB")];
 
 fn main() {
-    let compared = leaf::copies(1 << 20);
-    println!(
-        "{:8.0} {:8.0} {:6.3} ({:.3} to {:.3})",
-        compared.proved.median, compared.plain.median, compared.ratio.median, compared.ratio.low, compared.ratio.high
-    );
+    let mut rows = Vec::new();
+    let mut measured = |name: String, on: String, compared: Compared| {
+        eprintln!("{name}, {on}");
+        rows.push(Row { name, on, compared });
+    };
+    measured("copying leaf".into(), "1 MiB".into(), leaf::copies(1 << 20));
+
+    let sheets = RefCell::new(Sheets::drawn());
+    for call in [LOAD, STORE] {
+        for lie in [Lie::Adjacent, Lie::Scattered] {
+            for (bytes, size) in SIZES {
+                let compared = bytes::measured(&sheets, call, lie, bytes);
+                measured(call.name.into(), format!("{size}, {} blocks", lie.name()), compared);
+            }
+        }
+    }
+    drop(sheets);
+    for (blocks, part) in [(8_192, "a quarter of HOUSE"), (32_768, "a full HOUSE image")] {
+        let ledger = RefCell::new(Ledger::drawn(blocks));
+        for call in [OPEN, GROW, RELEASE, RECOVER] {
+            measured(call.name.into(), part.into(), tables::measured(&ledger, call));
+        }
+    }
+
+    print!("{}", table(&rows));
+    let docs = Path::new(env!("CARGO_MANIFEST_DIR")).join("../docs");
+    let plotted = fs::create_dir_all(&docs).and_then(|()| fs::write(docs.join("bench.svg"), plot(&rows)));
+    plotted.unwrap_or_else(|error| panic!("{}: {error}", docs.join("bench.svg").display()));
 }

@@ -1,5 +1,6 @@
 //! An ordinary book manager in plain Rust: the checks, answers and bytes of document 01, with no proof. Passes over the
-//! tables are linear, the lent index is its own witness, and a bitmap finds pairs that are named twice.
+//! tables are linear, the lent index is its own witness, and a bitmap finds pairs that are named twice. The calls are never
+//! inlined, as those of an archive cannot be.
 
 use std::ops::Range;
 
@@ -132,7 +133,7 @@ fn regions_in_order(g: Geometry, image: &[u8], header: &Header, mut each_start: 
             }
             continue;
         }
-        let odd = region == 1 && pages % g.pages as u64 != 0;
+        let odd = region == 1 && !pages.is_multiple_of(g.pages as u64);
         let kept_back = (2..FIXED_REGIONS).contains(&region) && pages != 0;
         if region >= header.counter || pages > g.most_book_pages() || odd || kept_back {
             return false;
@@ -240,6 +241,7 @@ fn book(g: Geometry, image: &[u8], region: u32) -> Answer<(usize, u64)> {
     }
 }
 
+#[inline(never)]
 pub fn lay(geometry: u32, image: &mut [u8], index: &mut [u8]) -> Answer<u64> {
     let g = Geometry::numbered(geometry)?;
     if index.len() != g.index_bytes() {
@@ -261,6 +263,7 @@ pub fn lay(geometry: u32, image: &mut [u8], index: &mut [u8]) -> Answer<u64> {
     Ok(0)
 }
 
+#[inline(never)]
 pub fn recover(geometry: u32, image: &[u8], index: &mut [u8]) -> Answer<u64> {
     let g = Geometry::numbered(geometry)?;
     let header = g.lent(image, index)?;
@@ -269,6 +272,7 @@ pub fn recover(geometry: u32, image: &[u8], index: &mut [u8]) -> Answer<u64> {
     Ok(0)
 }
 
+#[inline(never)]
 pub fn open(geometry: u32, image: &mut [u8], index: &mut [u8]) -> Answer<u64> {
     let (g, header) = checked(geometry, image, index)?;
     let region = if header.counter < g.entries - 1 {
@@ -282,6 +286,7 @@ pub fn open(geometry: u32, image: &mut [u8], index: &mut [u8]) -> Answer<u64> {
     Ok(region as u64)
 }
 
+#[inline(never)]
 pub fn grow(geometry: u32, image: &mut [u8], index: &mut [u8], region: u32, pages: u64) -> Answer<u64> {
     let (g, mut header) = checked(geometry, image, index)?;
     let (region, old) = book(g, image, region)?;
@@ -321,6 +326,7 @@ pub fn grow(geometry: u32, image: &mut [u8], index: &mut [u8], region: u32, page
     Ok(old)
 }
 
+#[inline(never)]
 pub fn release(geometry: u32, image: &mut [u8], index: &mut [u8], region: u32) -> Answer<u64> {
     let (g, header) = checked(geometry, image, index)?;
     if region == 0 {
@@ -342,6 +348,7 @@ pub fn release(geometry: u32, image: &mut [u8], index: &mut [u8], region: u32) -
     Ok(0)
 }
 
+#[inline(never)]
 pub fn size(geometry: u32, image: &[u8], region: u32) -> Answer<u64> {
     let g = Geometry::numbered(geometry)?;
     g.header(image)?;
@@ -405,6 +412,7 @@ impl Stretches {
     }
 }
 
+#[inline(never)]
 pub fn load(geometry: u32, image: &[u8], index: &[u8], region: u32, offset: u64, buffer: &mut [u8]) -> Answer<u64> {
     let asked = Stretches::asked(geometry, image, index, region, offset, buffer.len())?;
     asked.check(image, index)?;
@@ -417,6 +425,7 @@ pub fn load(geometry: u32, image: &[u8], index: &[u8], region: u32, offset: u64,
     Ok(0)
 }
 
+#[inline(never)]
 pub fn store(geometry: u32, image: &mut [u8], index: &[u8], region: u32, offset: u64, bytes: &[u8]) -> Answer<u64> {
     let asked = Stretches::asked(geometry, image, index, region, offset, bytes.len())?;
     asked.check(image, index)?;

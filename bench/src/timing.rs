@@ -25,39 +25,40 @@ pub struct Compared {
     pub ratio: Spread,
 }
 
-/// A thing to measure: `ready` is not timed, `call` is.
+/// A thing to measure: so many calls at a time, and what must be made ready before them, which is not timed.
 pub trait Subject {
+    fn calls(&self) -> usize;
     fn ready(&mut self) {}
-    fn call(&mut self);
+    fn run(&mut self);
 }
 
 const ROUNDS: usize = 41;
-const SAMPLE: Duration = Duration::from_millis(2);
+const SAMPLE: Duration = Duration::from_millis(4);
 
-/// The nanoseconds of a call, over so many calls.
-fn sample(subject: &mut dyn Subject, calls: u32) -> f64 {
+/// The nanoseconds of a call, over so many runs.
+fn sample(subject: &mut dyn Subject, runs: u32) -> f64 {
     let mut spent = Duration::ZERO;
-    for _ in 0..calls {
+    for _ in 0..runs {
         subject.ready();
         let began = Instant::now();
-        subject.call();
+        subject.run();
         spent += began.elapsed();
     }
-    spent.as_nanos() as f64 / f64::from(calls)
+    spent.as_nanos() as f64 / f64::from(runs) / subject.calls() as f64
 }
 
-/// Times the two in turns, the first of each round alternating, with as many calls a sample as make it long enough.
+/// Times the two in turns, the first of each round alternating, with as many runs a sample as make it long enough.
 pub fn compare(proved: &mut dyn Subject, plain: &mut dyn Subject) -> Compared {
-    let once = sample(proved, 1).max(sample(plain, 1)).max(1.0);
-    let calls = (SAMPLE.as_nanos() as f64 / once).ceil() as u32;
+    let once = sample(proved, 2).max(sample(plain, 2)) * proved.calls() as f64;
+    let runs = (SAMPLE.as_nanos() as f64 / once.max(1.0)).ceil() as u32;
     let (mut ours, mut theirs) = (Vec::new(), Vec::new());
     for round in 0..ROUNDS {
         if round % 2 == 0 {
-            ours.push(sample(proved, calls));
-            theirs.push(sample(plain, calls));
+            ours.push(sample(proved, runs));
+            theirs.push(sample(plain, runs));
         } else {
-            theirs.push(sample(plain, calls));
-            ours.push(sample(proved, calls));
+            theirs.push(sample(plain, runs));
+            ours.push(sample(proved, runs));
         }
     }
     let ratios = ours.iter().zip(&theirs).map(|(a, b)| a / b).collect();

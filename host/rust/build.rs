@@ -1,5 +1,7 @@
 mod proved;
 
 fn main() {
-    proved::link("host", "JAATURBAL_ARCHIVE");
+    let archive = proved::link("host", "JAATURBAL_ARCHIVE");
+    // For the test that links it into a C program.
+    println!("cargo:rustc-env=JAATURBAL_LINKED={}", archive.display());
 }

@@ -6,8 +6,8 @@ use std::path::{Path, PathBuf};
 use std::process::Command;
 
 /// Links the archive of the proved crate `name`: the one that the environment variable `variable` names, or else one that
-/// `tools/native` builds here, which proves the crate first.
-pub fn link(name: &str, variable: &str) {
+/// `tools/native` builds here, which proves the crate first. Answers where the archive stands.
+pub fn link(name: &str, variable: &str) -> PathBuf {
     println!("cargo:rerun-if-env-changed={variable}");
     let out = PathBuf::from(env::var_os("OUT_DIR").expect("cargo sets OUT_DIR"));
     let archive = out.join(format!("lib{name}.a"));
@@ -22,6 +22,7 @@ pub fn link(name: &str, variable: &str) {
     }
     println!("cargo:rustc-link-search=native={}", out.display());
     println!("cargo:rustc-link-lib=static={name}");
+    archive
 }
 
 fn build(name: &str, variable: &str, archive: &Path) {

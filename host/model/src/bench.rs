@@ -1,7 +1,7 @@
 //! Random histories at BENCH, every byte compared after every call.
 
 use crate::calls::{Limits, View, draw};
-use crate::compare::{Asked, Compared, judge};
+use crate::compare::{Asked, judge};
 use crate::damage;
 use crate::memory::{Guarded, Side};
 use crate::paper::{BENCH, Call, Lent, Manager};
@@ -88,6 +88,9 @@ impl Bench {
             let blank = if random.percent(95) { state.image.len().min(16) } else { 0 };
             state.image[..blank].fill(0);
         }
+        if random.percent(10) && state.image.len() >= 16 {
+            state.image[random.below(16) as usize] = random.between(1, 255) as u8;
+        }
         state
     }
 
@@ -133,7 +136,7 @@ impl Bench {
             buffer: buffer_room.copy_of(&buffer, side()),
         };
         let model = Lent { image: &mut state.image, index: &mut state.index, buffer: &mut buffer };
-        let asked = Asked { geometry, call, compared: Compared::Whole };
+        let asked = Asked { geometry, call, compared: usize::MAX };
         let outcome = judge(self.manager, &asked, ours, model)?;
         self.tally.count(call, &outcome);
         Ok(())

@@ -85,7 +85,7 @@ impl<'a> View<'a> {
                 if random.percent(50) {
                     u32::MAX
                 } else {
-                    random.next() as u32
+                    random.draw() as u32
                 }
             }
             _ => self.some_book(random) as u32,

@@ -1,47 +1,32 @@
 //! One call made twice, by a manager and by the model, and everything that can be seen afterwards compared.
 
-use std::ops::Range;
-
 use crate::paper::{self, Call, Lent, Manager, Outcome};
-
-/// Which bytes of the image are compared.
-pub enum Compared {
-    Whole,
-    /// The first bytes, and those data bytes that the model touched.
-    FrontAndTouched(usize),
-}
 
 /// A call to judge.
 pub struct Asked {
     pub geometry: u32,
     pub call: Call,
-    pub compared: Compared,
+    /// How many bytes of the image, from its first, are compared. Data bytes that the model touched are in any case.
+    pub compared: usize,
 }
 
 /// Makes the call on both sides, which start out alike, and says where they differ, if they do.
 pub fn judge(manager: Manager, asked: &Asked, ours: Lent<'_>, model: Lent<'_>) -> Result<Outcome, String> {
-    let Asked { geometry, call, compared } = asked;
-    let answer =
-        manager(*geometry, *call, Lent { image: &mut *ours.image, index: &mut *ours.index, buffer: &mut *ours.buffer });
-    let outcome = paper::call(
-        *geometry,
-        *call,
-        Lent { image: &mut *model.image, index: &mut *model.index, buffer: &mut *model.buffer },
-    );
-    let expected = paper::answered(&outcome);
+    let Asked { geometry, call, compared } = *asked;
+    let lent = Lent { image: &mut *ours.image, index: &mut *ours.index, buffer: &mut *ours.buffer };
+    let answer = manager(geometry, call, lent);
+    let lent = Lent { image: &mut *model.image, index: &mut *model.index, buffer: &mut *model.buffer };
+    let outcome = paper::call(geometry, call, lent);
     let mut faults = Vec::new();
+    let expected = paper::answered(&outcome);
     if answer != expected {
         faults.push(format!("answered {}, not {}", shown(answer), shown(expected)));
     }
-    let ranges: Vec<Range<usize>> = match (compared, &outcome) {
-        (Compared::Whole, _) => vec![0..model.image.len()],
-        (Compared::FrontAndTouched(front), Ok(done)) => {
-            [vec![0..(*front).min(model.image.len())], done.touched.clone()].concat()
-        }
-        (Compared::FrontAndTouched(front), Err(_)) => vec![0..(*front).min(model.image.len())],
-    };
-    for range in ranges {
-        faults.extend(difference("image", &ours.image[range.clone()], &model.image[range.clone()], range.start));
+    let first = 0..compared.min(model.image.len());
+    let touched = outcome.iter().flat_map(|done| &done.touched);
+    for range in touched.filter(|range| range.end > first.end).chain([&first]) {
+        let (ours, model) = (&ours.image[range.clone()], &model.image[range.clone()]);
+        faults.extend(difference("image", ours, model, range.start));
     }
     faults.extend(difference("index", ours.index, model.index, 0));
     faults.extend(difference("buffer", ours.buffer, model.buffer, 0));

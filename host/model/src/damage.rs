@@ -21,7 +21,7 @@ fn damage_front(g: Geometry, focus: Option<u64>, image: &mut [u8], random: &mut 
         8 => move_to_kept_back(g, focus, image, random),
         _ => {
             let at = random.below(g.front_bytes() as u64) as usize;
-            image[at] = random.next() as u8;
+            image[at] = random.draw() as u8;
         }
     }
 }

@@ -1,7 +1,7 @@
 //! Random histories at HOUSE. The image is mapped without reserving memory, and stands in two copies that are kept alike.
 
 use crate::calls::{Limits, View, draw};
-use crate::compare::{Asked, Compared, judge};
+use crate::compare::{Asked, judge};
 use crate::damage;
 use crate::memory::{Guarded, Side};
 use crate::paper::{Call, HOUSE, Lent, Manager};
@@ -24,7 +24,7 @@ struct House {
     index: Vec<u8>,
     rooms: [Guarded; 2],
     limits: Limits,
-    compared: fn() -> Compared,
+    compared: usize,
 }
 
 /// Images of few blocks, every byte compared after every call.
@@ -35,7 +35,7 @@ pub fn small(manager: Manager, histories: u64, seed: u64) -> Tally {
         let blocks = if history % 9 == 0 { 0 } else { 1 + history % 4 };
         let bytes = ((blocks + 1) * HOUSE.block_bytes() + part) as usize;
         let limits = Limits { pages: u64::MAX, bytes: MOST_BUFFER as u64 };
-        let mut house = House::new(manager, bytes, seed + history, limits, || Compared::Whole);
+        let mut house = House::new(manager, bytes, seed + history, limits, usize::MAX);
         for room in [&mut house.ours, &mut house.model] {
             // The data differ from zero, so that what growth must make zero is seen.
             let mut random = Random::new(seed + history);
@@ -51,8 +51,7 @@ pub fn small(manager: Manager, histories: u64, seed: u64) -> Tally {
 pub fn full(manager: Manager, histories: u64, seed: u64) -> Tally {
     let bytes = ((HOUSE.blocks + 1) * HOUSE.block_bytes()) as usize;
     let limits = Limits { pages: 200, bytes: 300_000 };
-    let front = || Compared::FrontAndTouched(HOUSE.front_bytes() + 4_096);
-    let mut house = House::new(manager, bytes, seed, limits, front);
+    let mut house = House::new(manager, bytes, seed, limits, HOUSE.front_bytes() + 4_096);
     for history in 0..histories {
         house.history(STEPS).unwrap_or_else(|fault| panic!("full history {history} of seed {seed}: {fault}"));
         assert!(house.same_pages_touched(), "full history {history} of seed {seed}: other pages were touched");
@@ -63,7 +62,7 @@ pub fn full(manager: Manager, histories: u64, seed: u64) -> Tally {
 }
 
 impl House {
-    fn new(manager: Manager, bytes: usize, seed: u64, limits: Limits, compared: fn() -> Compared) -> House {
+    fn new(manager: Manager, bytes: usize, seed: u64, limits: Limits, compared: usize) -> House {
         House {
             manager,
             random: Random::new(seed),
@@ -141,7 +140,7 @@ impl House {
         };
         let image = self.model.part(bytes, Side::Front);
         let model = Lent { image, index: &mut self.index, buffer: &mut buffer };
-        let asked = Asked { geometry, call, compared: (self.compared)() };
+        let asked = Asked { geometry, call, compared: self.compared };
         let outcome = judge(self.manager, &asked, ours, model)?;
         self.tally.count(call, &outcome);
         Ok(())

@@ -53,7 +53,7 @@ impl Geometry {
     }
 
     pub fn need(self, pages: u128) -> u128 {
-        (pages + u128::from(self.pages) - 1) / u128::from(self.pages)
+        pages.div_ceil(u128::from(self.pages))
     }
 
     /// K: the data blocks that an image of so many bytes, a reserve at least, has room for.

@@ -11,6 +11,8 @@ pub struct Wanted {
     pub opened: u64,
     /// How many in a hundred of those are not open again.
     pub released: u64,
+    /// The most blocks that a book is given at a time.
+    pub share: u64,
 }
 
 impl Wanted {
@@ -23,6 +25,7 @@ impl Wanted {
             taken,
             opened: if random.percent(30) { most } else { random.between(0, few) },
             released: if random.percent(30) { 0 } else { random.between(0, 60) },
+            share: if random.percent(50) { 1 + taken / 4 } else { 3 },
         }
     }
 }
@@ -34,7 +37,7 @@ pub fn drawn(g: Geometry, wanted: &Wanted, random: &mut Random) -> Tables {
     for region in 16..tables.counter {
         tables.books[region as usize] = (!random.percent(wanted.released)).then_some(0);
     }
-    let mut held = shares(&tables, random);
+    let mut held = shares(&tables, wanted.share, random);
     let mut blocks: Vec<u64> = (0..wanted.taken).collect();
     random.shuffle(&mut blocks);
     for (region, held) in held.iter_mut().enumerate() {
@@ -51,14 +54,13 @@ pub fn drawn(g: Geometry, wanted: &Wanted, random: &mut Random) -> Tables {
 }
 
 /// How many blocks each region holds: they sum to the blocks taken.
-fn shares(tables: &Tables, random: &mut Random) -> Vec<u64> {
+fn shares(tables: &Tables, most: u64, random: &mut Random) -> Vec<u64> {
     let holds = |region: &u64| !(2..16).contains(region) && tables.books[*region as usize].is_some();
     let holders: Vec<u64> = (0..tables.books.len() as u64).filter(holds).collect();
     let mut held = vec![0; tables.books.len()];
     let mut left = tables.taken;
     while left > 0 {
         let region = random.pick(&holders);
-        let most = if random.percent(50) { 1 } else { 1 + tables.taken / 4 };
         let share = random.between(1, most.min(left));
         held[region as usize] += share;
         left -= share;

@@ -1,0 +1,88 @@
+//! The table that is printed, and the plot.
+
+use std::fmt::Write;
+
+use crate::timing::{Compared, Spread};
+
+/// A line of the table: what was measured, on what, and the times.
+pub struct Row {
+    pub name: String,
+    pub on: String,
+    pub compared: Compared,
+}
+
+/// A time with three digits that count.
+fn time(nanoseconds: f64) -> String {
+    let (scaled, unit) = match nanoseconds {
+        small if small < 1e3 => (small, "ns"),
+        middling if middling < 1e6 => (middling / 1e3, "µs"),
+        large => (large / 1e6, "ms"),
+    };
+    let digits = if scaled < 10.0 { 2 } else { usize::from(scaled < 100.0) };
+    format!("{scaled:.digits$} {unit}")
+}
+
+fn times(spread: Spread) -> String {
+    format!("{} ({} to {})", time(spread.median), time(spread.low), time(spread.high))
+}
+
+pub fn table(rows: &[Row]) -> String {
+    let mut text = String::from("| call | on | proved | plain | proved / plain |\n|---|---|---|---|---|\n");
+    for Row { name, on, compared } in rows {
+        let Compared { proved, plain, ratio } = compared;
+        let ratio = format!("{:.2} ({:.2} to {:.2})", ratio.median, ratio.low, ratio.high);
+        writeln!(text, "| {name} | {on} | {} | {} | {ratio} |", times(*proved), times(*plain)).expect("a string grows");
+    }
+    text
+}
+
+// The plot: a line of text and a bar for each row, on a scale of logarithms.
+const LEFT: f64 = 330.0;
+const WIDE: f64 = 380.0;
+const TOP: f64 = 64.0;
+const STEP: f64 = 22.0;
+const MARKS: [f64; 5] = [0.5, 1.0, 2.0, 4.0, 8.0];
+
+fn across(ratio: f64) -> f64 {
+    let (low, high) = (MARKS[0].ln(), MARKS[MARKS.len() - 1].ln());
+    LEFT + WIDE * ((ratio.ln() - low) / (high - low)).clamp(0.0, 1.0)
+}
+
+/// The ratios as a picture: a dot for the median, a line from quartile to quartile.
+pub fn plot(rows: &[Row]) -> String {
+    let bottom = TOP + STEP * rows.len() as f64;
+    let mut lines = vec![
+        format!(
+            r##"<svg xmlns="http://www.w3.org/2000/svg" width="760" height="{0}" viewBox="0 0 760 {0}" font-family="sans-serif" font-size="13">"##,
+            bottom + 16.0
+        ),
+        r##"<rect width="100%" height="100%" fill="#ffffff"/>"##.to_string(),
+        r##"<text x="16" y="24" font-size="15">Time of a proved call over plain Rust with the same checks</text>"##
+            .to_string(),
+    ];
+    for mark in MARKS {
+        let (x, shade) = (across(mark), if mark == 1.0 { "#444444" } else { "#cccccc" });
+        lines.push(format!(
+            r##"<line x1="{x:.1}" y1="{:.1}" x2="{x:.1}" y2="{bottom:.1}" stroke="{shade}"/>"##,
+            TOP - 8.0
+        ));
+        lines.push(format!(
+            r##"<text x="{x:.1}" y="{:.1}" text-anchor="middle" fill="#444444">{mark}</text>"##,
+            TOP - 14.0
+        ));
+    }
+    for (row, turn) in rows.iter().zip(0..) {
+        let y = TOP + STEP * (f64::from(turn) + 0.5);
+        let Spread { low, median, high } = row.compared.ratio;
+        lines.push(format!(r##"<text x="16" y="{:.1}">{} {}</text>"##, y + 4.5, row.name, row.on));
+        lines.push(format!(
+            r##"<line x1="{:.1}" y1="{y:.1}" x2="{:.1}" y2="{y:.1}" stroke="#3366aa" stroke-width="3"/>"##,
+            across(low),
+            across(high)
+        ));
+        lines.push(format!(r##"<circle cx="{:.1}" cy="{y:.1}" r="4.5" fill="#3366aa"/>"##, across(median)));
+        lines.push(format!(r##"<text x="716" y="{:.1}">{median:.2}</text>"##, y + 4.5));
+    }
+    lines.push("</svg>\n".to_string());
+    lines.join("\n")
+}

@@ -1,0 +1,93 @@
+/* Jaaturbal: books kept in one stored image. The calls are proved to answer as told here, whatever the lent bytes hold.
+ *
+ * An image is divided into blocks, and a block into pages. Its first block is reserved for a header and two tables; the others
+ * hold the pages of books. A book is known by its region, a number that open gives. The index makes loads and stores quick:
+ * it goes with the image, and recover writes it anew from the image alone.
+ *
+ * geometry                   BENCH          HOUSE
+ *   bytes in a page             64         65,536
+ *   bytes in a block           512      8,388,608
+ *   blocks, at most             16         32,768
+ *   regions that open gives  16..22      16..32,766
+ *   bytes of the index          82        131,074
+ *
+ * An image has room for the blocks that fit in it whole, less the first.
+ *
+ * Memory. Every slice is a pointer, which is not NULL, and the count of bytes behind it. A slice that a call may write (a pointer
+ * without const) must overlap with no other slice of that call. Slices that are only read may overlap. No call keeps a pointer,
+ * allocates memory, or uses anything but its arguments, so calls on different images may run at the same time.
+ *
+ * Answers. Each call answers refusal * 2^32 + value: take it apart by BOOK_REFUSAL and BOOK_VALUE. The refusal is 0 when
+ * the call was done. A refused call answers value 0 and has changed no byte. Where more than one refusal would apply, the order
+ * of checks decides: it is told at each call.
+ */
+#ifndef JAATURBAL_H
+#define JAATURBAL_H
+
+#include <stddef.h>
+#include <stdint.h>
+
+#ifdef __cplusplus
+extern "C" {
+#endif
+
+/* Geometries. Any other number is refused with BOOK_GEOMETRY_NOT_ALLOWED. */
+#define BOOK_BENCH 0u
+#define BOOK_HOUSE 1u
+
+#define BOOK_BENCH_INDEX_BYTES ((size_t)82)
+#define BOOK_HOUSE_INDEX_BYTES ((size_t)131074)
+
+#define BOOK_REFUSAL(answer) ((uint32_t)((uint64_t)(answer) >> 32))
+#define BOOK_VALUE(answer) ((uint32_t)(answer))
+
+enum book_refusal {
+    BOOK_DONE = 0,
+    BOOK_GEOMETRY_NOT_ALLOWED = 1,   /* neither BOOK_BENCH nor BOOK_HOUSE */
+    BOOK_INDEX_LENGTH = 2,           /* the index has not the bytes that the geometry asks for */
+    BOOK_IMAGE_TOO_SHORT = 3,        /* the image is shorter than one block */
+    BOOK_HEADER_WRONG = 4,           /* marker, version, zero bytes or counts of the header */
+    BOOK_TAIL_MISSING = 5,           /* the image ends before the last block that is taken */
+    BOOK_TABLES_NOT_WELL_FORMED = 6, /* the tables contradict each other; load, store, size: this book has too many pages */
+    BOOK_INDEX_NOT_RECOVERED = 7,    /* the index is not what recover would write; load, store: at a position they touch */
+    BOOK_REGION_NOT_USABLE = 8,      /* region 1 to 15, out of range, or not open; for release also 0 */
+    BOOK_BEYOND_BOOK = 9,            /* offset plus length beyond the book's bytes */
+    BOOK_NO_BLOCKS_LEFT = 10,        /* too few blocks are left for the growth */
+    BOOK_NO_REGION_LEFT = 11,        /* every region is open */
+    BOOK_NOT_BLANK = 12              /* lay, and one of the image's first 16 bytes is not zero */
+};
+
+/* Writes the header and tables of an image with no books but those that are always there, and its index. Data blocks keep
+ * their bytes. Value 0. Checks 1, 2, 3, 12. */
+uint64_t book_lay(uint32_t geometry, uint8_t *image, size_t image_bytes, uint8_t *index, size_t index_bytes);
+
+/* Opens an empty book. Its region is the value. Checks 1 to 7, 11. */
+uint64_t book_open(uint32_t geometry, uint8_t *image, size_t image_bytes, uint8_t *index, size_t index_bytes);
+
+/* Appends so many pages to a book and makes them zero. The pages that it had are the value. Checks 1 to 8, 10. */
+uint64_t book_grow(uint32_t geometry, uint8_t *image, size_t image_bytes, uint8_t *index, size_t index_bytes,
+                   uint32_t region, uint64_t pages);
+
+/* Fills the buffer with a book's bytes from an offset on. Value 0. Checks 1 to 5, 8, 6, 9, 7. */
+uint64_t book_load(uint32_t geometry, const uint8_t *image, size_t image_bytes, const uint8_t *index, size_t index_bytes,
+                   uint32_t region, uint64_t offset, uint8_t *buffer, size_t buffer_bytes);
+
+/* Writes bytes into a book from an offset on: all of them or, refused, none. Value 0. Checks 1 to 5, 8, 6, 9, 7. */
+uint64_t book_store(uint32_t geometry, uint8_t *image, size_t image_bytes, const uint8_t *index, size_t index_bytes,
+                    uint32_t region, uint64_t offset, const uint8_t *bytes, size_t bytes_bytes);
+
+/* The value is the book's pages. Checks 1, 3, 4, 5, 8, 6. */
+uint64_t book_size(uint32_t geometry, const uint8_t *image, size_t image_bytes, uint32_t region);
+
+/* Closes a book. Its blocks are given to books that grow later; their bytes stay until then. Value 0. Checks 1 to 8. */
+uint64_t book_release(uint32_t geometry, uint8_t *image, size_t image_bytes, uint8_t *index, size_t index_bytes,
+                      uint32_t region);
+
+/* Writes the whole index from the image. What the index held before has no influence. Value 0. Checks 1 to 6. */
+uint64_t book_recover(uint32_t geometry, const uint8_t *image, size_t image_bytes, uint8_t *index, size_t index_bytes);
+
+#ifdef __cplusplus
+}
+#endif
+
+#endif

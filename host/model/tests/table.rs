@@ -1,0 +1,113 @@
+//! The model itself, held to the bench table of document 01, case by case.
+
+use jaaturbal_model::paper::{BENCH, Call, Lent, Outcome, Why, answered, call, number};
+
+struct Bench {
+    image: Vec<u8>,
+    index: Vec<u8>,
+}
+
+impl Bench {
+    fn new() -> Bench {
+        Bench { image: vec![0; 8_704], index: vec![0; BENCH.index_bytes()] }
+    }
+
+    fn with(&mut self, made: Call, buffer: &mut [u8]) -> Outcome {
+        call(0, made, Lent { image: &mut self.image, index: &mut self.index, buffer })
+    }
+
+    /// Refusal and value.
+    fn make(&mut self, made: Call) -> (u64, u64) {
+        let answer = answered(&self.with(made, &mut []));
+        (answer >> 32, answer & 0xffff_ffff)
+    }
+
+    fn load(&mut self, offset: u64, bytes: usize) -> u64 {
+        answered(&self.with(Call::Load { region: 16, offset }, &mut vec![0; bytes])) >> 32
+    }
+
+    fn entry(&self, block: u64) -> &[u8] {
+        &self.image[BENCH.entry_at(block)..BENCH.entry_at(block) + 4]
+    }
+
+    fn index_numbers(&self) -> Vec<u64> {
+        self.index.chunks(2).map(number).collect()
+    }
+
+    /// Cases 1 to 3.
+    fn third_case() -> Bench {
+        let mut bench = Bench::new();
+        assert_eq!(bench.make(Call::Lay), (0, 0));
+        assert_eq!(bench.image[..16], [0, 0, 0, 0, 2, 0, 0, 0, 0, 0, 16, 0, 0, 0, 0, 0]);
+        assert!((0..16).all(|block| bench.entry(block) == [0x17, 0, 0, 0]));
+        assert_eq!(bench.make(Call::Lay), (12, 0));
+        assert_eq!(bench.make(Call::Open), (0, 16));
+        assert_eq!(bench.make(Call::Open), (0, 17));
+        assert_eq!(bench.make(Call::Grow { region: 16, pages: 8 }), (0, 0));
+        assert_eq!(bench.make(Call::Grow { region: 17, pages: 8 }), (0, 0));
+        assert_eq!(bench.make(Call::Grow { region: 16, pages: 1 }), (0, 8));
+        assert_eq!(number(&bench.image[8..10]), 3);
+        assert_eq!(bench.entry(2), [0x10, 0, 1, 0]);
+        bench
+    }
+}
+
+#[test]
+fn index_of_case_4() {
+    let starts = [vec![0; 17], vec![2], vec![3; 7]].concat();
+    let slots = [vec![0, 2, 1], vec![65_535; 13]].concat();
+    assert_eq!(Bench::third_case().index_numbers(), [starts, slots].concat());
+}
+
+#[test]
+fn bytes_of_cases_5_and_6() {
+    let mut bench = Bench::third_case();
+    let before = bench.image.clone();
+    assert!(bench.with(Call::Store { region: 16, offset: 510 }, &mut [1, 2, 3, 4]).is_ok());
+    let changed: Vec<usize> = (0..8_704).filter(|at| bench.image[*at] != before[*at]).collect();
+    assert_eq!(changed, [1_022, 1_023, 1_536, 1_537]);
+    assert_eq!([bench.load(575, 1), bench.load(576, 0), bench.load(576, 1), bench.load(577, 0)], [0, 0, 9, 9]);
+}
+
+#[test]
+fn cut_of_case_7() {
+    let mut bench = Bench::third_case();
+    bench.image.truncate(2_048);
+    assert_eq!(bench.make(Call::Recover), (0, 0));
+    bench.image.truncate(2_047);
+    assert_eq!(bench.make(Call::Recover), (5, 0));
+}
+
+#[test]
+fn release_and_growth_of_cases_8_to_10() {
+    let mut bench = Bench::third_case();
+    bench.image[1_536..1_600].fill(9);
+    assert_eq!(bench.make(Call::Release { region: 16 }), (0, 0));
+    assert_eq!([bench.entry(0), bench.entry(2)], [[1, 0, 0, 0], [1, 0, 1, 0]]);
+    assert_eq!(number(&bench.image[BENCH.size_at(1)..BENCH.size_at(2)]), 16);
+    assert_eq!(bench.make(Call::Grow { region: 17, pages: 1 }), (0, 8));
+    assert_eq!(bench.entry(2), [0x11, 0, 1, 0]);
+    assert_eq!(number(&bench.image[8..10]), 3);
+    assert_eq!(bench.image[1_536..1_600], [0; 64]);
+    assert_eq!(bench.make(Call::Grow { region: 17, pages: 120 }), (10, 0));
+    assert_eq!(bench.make(Call::Grow { region: 17, pages: u64::MAX }), (10, 0));
+    assert_eq!(bench.make(Call::Grow { region: 17, pages: 0 }), (0, 9));
+    assert_eq!(bench.make(Call::Grow { region: 17, pages: 119 }), (0, 9));
+}
+
+#[test]
+fn regions_of_case_11() {
+    let mut bench = Bench::new();
+    bench.make(Call::Lay);
+    assert!((16..=22).all(|region| bench.make(Call::Open) == (0, region)));
+    assert_eq!(bench.make(Call::Open), (11, 0));
+    assert_eq!(bench.make(Call::Release { region: 18 }), (0, 0));
+    assert_eq!(bench.make(Call::Open), (0, 18));
+}
+
+#[test]
+fn repeat_of_case_12() {
+    let mut bench = Bench::third_case();
+    bench.image[16..20].copy_from_slice(&[0x11, 0, 0, 0]);
+    assert_eq!(bench.with(Call::Recover, &mut []).err(), Some(Why::DSamePair));
+}

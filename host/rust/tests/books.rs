@@ -1,0 +1,71 @@
+//! `Books` and the bench table of document 01 through it.
+
+use jaaturbal::{Books, Geometry, Offset, Pages, Refusal, Region};
+
+/// The books after the table's third case: 16 with 9 pages, 17 with 8.
+fn third_case() -> Books {
+    let mut books = Books::new(Geometry::Bench, 16).unwrap();
+    assert_eq!(books.open(), Ok(Region(16)));
+    assert_eq!(books.open(), Ok(Region(17)));
+    assert_eq!(books.grow(Region(16), Pages(8)), Ok(Pages(0)));
+    assert_eq!(books.grow(Region(17), Pages(8)), Ok(Pages(0)));
+    assert_eq!(books.grow(Region(16), Pages(1)), Ok(Pages(8)));
+    books
+}
+
+#[test]
+fn bytes_cross_blocks() {
+    let mut books = third_case();
+    books.store(Region(16), Offset(510), &[1, 2, 3, 4]).unwrap();
+    let image = books.image();
+    assert_eq!([image[1022], image[1023], image[1536], image[1537]], [1, 2, 3, 4]);
+    let mut bytes = [0; 6];
+    books.load(Region(16), Offset(509), &mut bytes).unwrap();
+    assert_eq!(bytes, [0, 1, 2, 3, 4, 0]);
+}
+
+#[test]
+fn the_end_of_a_book() {
+    let books = third_case();
+    let load = |offset, bytes: usize| books.load(Region(16), Offset(offset), &mut vec![0; bytes]);
+    assert_eq!([load(575, 1), load(576, 0)], [Ok(()), Ok(())]);
+    assert_eq!([load(576, 1), load(577, 0), load(u64::MAX, 1)], [Err(Refusal::BeyondBook); 3]);
+}
+
+#[test]
+fn a_cut_image() {
+    let image = third_case().into_image();
+    assert_eq!(Books::recover(Geometry::Bench, &mut image.clone()[..2047]).err(), Some(Refusal::TailMissing));
+    assert!(Books::recover(Geometry::Bench, &mut image.clone()[..2048]).is_ok());
+    assert_eq!(Books::lay(Geometry::Bench, image).err(), Some(Refusal::NotBlank));
+}
+
+#[test]
+fn released_blocks_are_used_again() {
+    let mut books = third_case();
+    books.store(Region(16), Offset(512), &[9; 64]).unwrap();
+    books.release(Region(16)).unwrap();
+    assert_eq!(books.size(Region(16)), Err(Refusal::RegionNotUsable));
+    assert_eq!(books.grow(Region(17), Pages(1)), Ok(Pages(8)));
+    assert_eq!(books.image()[1536..1600], [0; 64]);
+    assert_eq!(books.grow(Region(17), Pages(120)), Err(Refusal::NoBlocksLeft));
+    assert_eq!(books.grow(Region(17), Pages(u64::MAX)), Err(Refusal::NoBlocksLeft));
+    assert_eq!(books.grow(Region(17), Pages(119)), Ok(Pages(9)));
+}
+
+#[test]
+fn regions_run_out() {
+    let mut books = Books::new(Geometry::Bench, 16).unwrap();
+    let opened: Vec<_> = (0..7).map(|_| books.open()).collect();
+    assert_eq!(opened, (16..=22).map(|region| Ok(Region(region))).collect::<Vec<_>>());
+    assert_eq!(books.open(), Err(Refusal::NoRegionLeft));
+    books.release(Region(18)).unwrap();
+    assert_eq!(books.open(), Ok(Region(18)));
+}
+
+#[test]
+fn refusals_have_words() {
+    let words: Vec<String> = (1..=12).map(|number| Refusal::numbered(number).unwrap().to_string()).collect();
+    assert!(words.iter().all(|words| words.len() > 10));
+    assert_eq!((Refusal::numbered(0), Refusal::numbered(13)), (None, None));
+}
