@@ -1,0 +1,2 @@
+-- The laws of the shared refusals, which the calls cite.
+pub mod Shared

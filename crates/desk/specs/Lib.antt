@@ -1,0 +1,2 @@
+-- The refusals that calls share.
+pub mod Shared
