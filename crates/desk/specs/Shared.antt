@@ -1,5 +1,4 @@
 -- The refusals that calls share: the lists of their checks, and what an answer k of them shows.
--- refusals 1, 3, 4 and 5 do not apply
 use Prim.Native.Nat.{ℕ, _≤_}
 use mathlib.Core.Bool.{true}
 use mathlib.Core.Path.{_≡_}
@@ -12,6 +11,7 @@ use Rattle.paper.specs.Refusals.{Check, first, usable, no1, no2, no3, no4, no5,
 use Rattle.rules.specs.Facts.{Header, Entered}
 use Rattle.image.specs.Readable.{Readable}
 
+-- refusals 1, 3, 4 and 5 do not apply
 pub record Sound (g : Geometry) (image : List ℕ) : Type 0 where
   pub readable : Readable g image
   pub header : Header g (front g image)
