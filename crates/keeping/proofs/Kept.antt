@@ -16,7 +16,7 @@ use Rattle.laws.proofs.Folds.{sum-two}
 use Rattle.paper.specs.declared.Geometry.{Geometry}
 use Rattle.paper.specs.Geometry.{reclaimed, blockBytes, Allowed, need, capacity, frontBytes}
 use Rattle.paper.specs.Image.{pagesIn, front, rest, taken, sizeOf, pagesOf, isOpen, needOf, blockOf}
-use Rattle.paper.specs.Index.{indexOf, blockIn}
+use Rattle.paper.specs.Index.{indexOf}
 use Rattle.paper.specs.Calls.{«open», grow, store, release, nextRegion, opened, stored, newBlocks, grownFront, grown, released}
 use Rattle.paper.specs.Refusals.{first, usable, no8, no10, checks, refusal}
 use Rattle.paper.proofs.Counting.{capacity-blocks}
@@ -24,14 +24,12 @@ use Rattle.paper.specs.Outcomes.{State, lent, accepted, outcome}
 use Rattle.rules.specs.Facts.{Formed, Ordered, callable}
 use Rattle.rules.proofs.Cells.{front-joined, length-joined}
 use Rattle.rules.proofs.Facts.{open-below, need-open, open-same}
-use Rattle.rules.proofs.Index.{block-read}
 use Rattle.rules.proofs.First.{first-nil, first-pass, first-halt, pass7}
 use Rattle.rules.proofs.Checks.{usable-facts, callable-apart, open-accepted, grow-accepted, release-accepted, load-accepted, store-refusal}
 use Rattle.rules.proofs.Outcomes.{outcome-done}
 use Rattle.keeping.specs.Kept.{BookStays, Keeps, wanted}
 use Rattle.keeping.proofs.General.{sum-bump-two}
-use Rattle.keeping.proofs.Stored.{stored-ext}
-use Rattle.keeping.proofs.Books.{data-joined, book-kept, stored-length, stored-front, stored-other}
+use Rattle.keeping.proofs.Books.{data-joined, book-kept, stored-length, stored-front, stored-other, stored-recovered}
 use Rattle.keeping.proofs.Grow.{need-mono, grownFront-to}
 use Rattle.keeping.proofs.Growth.{grown-other, grown-length, grown-front}
 use Rattle.keeping.proofs.Open.{open-next}
@@ -84,6 +82,7 @@ module _ (g : Geometry) (s : State) where
         as-long = new-length g (O .geometry) (s .image) (O .long) (opened g t) (W .formed);
         never-falls = rw (front-joined g (opened g t) (s .image) (W .formed .full)) (omega (arith, W .count));
         others = λ q ne d o. new-stays g (O .geometry) (s .image) (O .long) (opened g t) (W .formed) q o (W .sizes q ne) (λ p h. W .blocks q p h);
+        closed = λ q ne o. rw (front-joined g (opened g t) (s .image) (W .formed .full)) (open-same g t (opened g t) q (W .sizes q ne) ∙ o);
       })
 
   pub release-keeps : (r : ℕ) → refusal g (s .image) (s .index) (release r) ≡ 0 → Keeps g r s (outcome g (release r) s .state)
@@ -97,6 +96,7 @@ module _ (g : Geometry) (s : State) where
         as-long = new-length g (O .geometry) (s .image) (O .long) (released g r t) (W .formed);
         never-falls = rw (front-joined g (released g r t) (s .image) (W .formed .full)) (omega (arith, W .count));
         others = λ q ne d o. new-stays g (O .geometry) (s .image) (O .long) (released g r t) (W .formed) q o (W .sizes q ne d) (λ p h. W .blocks q p ne d h);
+        closed = λ q ne o. rw (front-joined g (released g r t) (s .image) (W .formed .full)) (W .opens q ne ∙ o);
       })
 
   pub grow-keeps : (r n : ℕ) → refusal g (s .image) (s .index) (grow r n) ≡ 0 → Keeps g r s (outcome g (grow r n) s .state)
@@ -124,6 +124,7 @@ module _ (g : Geometry) (s : State) where
         as-long = refl;
         never-falls = omega arith;
         others = λ q ne d o. record { opened = o; pages = refl; blocks = λ p h. refl; bytes = refl };
+        closed = λ q ne o. o;
       })
       go (no z) =
           let W = grownFront-to g (O .geometry) (capacity g (length (s .image))) (capacity-blocks g (length (s .image))) r (c .0) t (O .formed) (c .1) n (a .2) in
@@ -139,6 +140,7 @@ module _ (g : Geometry) (s : State) where
               blocks = rw fr (λ p h. W .blocks q p d h);
               bytes = rw fr (grown-other g (O .geometry) (s .image) (O .long) t (O .formed) r (c .0) (c .1) n (a .2) q o ne d);
             };
+            closed = λ q ne o. rw fr (W .opens q ∙ o);
           })
 
   -- a store has no check of the tables: that they are in order is given
@@ -150,12 +152,9 @@ module _ (g : Geometry) (s : State) where
       let A = O .geometry in
       let op = usable-facts g t r (F .usable) .2 in
       let cap = capacity g (length (s .image)) in
-      let is : stored g (blockIn g (s .index) r) (needOf g t r) o bytes (s .image) ≡ stored g (blockOf g t r) (needOf g t r) o bytes (s .image) =
-      stored-ext g (blockIn g (s .index) r) (blockOf g t r) (needOf g t r) o bytes (s .image)
-      (λ p h. rw (O .recovered) (block-read g A t (O .formed .rules) (O .formed .header .taken-most) r p h)) in
       let len = stored-length g A cap t (O .formed) (s .image) (omega arith) r op o bytes in
       let fr = stored-front g A cap t (O .formed) (s .image) (omega arith) r op o bytes in
-      rw (outcome-done g (store r o bytes) s e, is) (record {
+      rw (outcome-done g (store r o bytes) s e, stored-recovered g (s .image) (s .index) O r o bytes) (record {
         ordered = record { geometry = A; long = omega (arith, O .long, len); formed = rw (fr, len) (O .formed); recovered = rw fr (O .recovered) };
         as-long = len;
         never-falls = rw fr (omega arith);
@@ -168,6 +167,7 @@ module _ (g : Geometry) (s : State) where
               (λ p j h l. stored-other g A cap t (O .formed) (s .image) (omega arith) r op o bytes q p j ne h l)
               );
         };
+        closed = λ q ne w. rw fr w;
       })
 
 -- ---- refusal 10

@@ -11,3 +11,4 @@ pub mod Growth
 pub mod Open
 pub mod Release
 pub mod Kept
+pub mod Changed
