@@ -1,12 +1,13 @@
-//! Prints the table, and writes the plot that docs/ shows.
+//! Prints the table, and writes the page and the plot that docs/ shows.
 
 use std::cell::RefCell;
+use std::env::consts::ARCH;
 use std::fs;
 use std::path::Path;
 
 use jaaturbal_bench::bytes::{self, Lie, Sheets};
 use jaaturbal_bench::manager::{GROW, LOAD, OPEN, RECOVER, RELEASE, STORE};
-use jaaturbal_bench::report::{Row, plot, table};
+use jaaturbal_bench::report::{Row, page, plot, table};
 use jaaturbal_bench::tables::{self, Ledger};
 use jaaturbal_bench::{leaf, timing::Compared};
 
@@ -39,6 +40,16 @@ fn main() {
 
     print!("{}", table(&rows));
     let docs = Path::new(env!("CARGO_MANIFEST_DIR")).join("../docs");
-    let plotted = fs::create_dir_all(&docs).and_then(|()| fs::write(docs.join("bench.svg"), plot(&rows)));
-    plotted.unwrap_or_else(|error| panic!("{}: {error}", docs.join("bench.svg").display()));
+    for (name, text) in [("bench.svg", plot(&rows)), ("BENCHMARKS.md", page(&rows, &machine()))] {
+        let file = docs.join(name);
+        fs::write(&file, text).unwrap_or_else(|error| panic!("{}: {error}", file.display()));
+    }
+}
+
+/// The processor's name, or its kind where the system does not tell the name.
+fn machine() -> String {
+    let told = fs::read_to_string("/proc/cpuinfo").unwrap_or_default();
+    let name = told.lines().find_map(|line| line.strip_prefix("model name")?.split(": ").nth(1));
+    let cores = std::thread::available_parallelism().map_or(1, |cores| cores.get());
+    format!("{} with {cores} cores", name.map_or_else(|| format!("an {ARCH} machine"), str::to_string))
 }

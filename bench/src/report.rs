@@ -2,7 +2,7 @@
 
 use std::fmt::Write;
 
-use crate::timing::{Compared, Spread};
+use crate::timing::{Compared, ROUNDS, Spread};
 
 /// A line of the table: what was measured, on what, and the times.
 pub struct Row {
@@ -34,6 +34,26 @@ pub fn table(rows: &[Row]) -> String {
         writeln!(text, "| {name} | {on} | {} | {} | {ratio} |", times(*proved), times(*plain)).expect("a string grows");
     }
     text
+}
+
+/// The page that docs/ shows.
+pub fn page(rows: &[Row], machine: &str) -> String {
+    format!(
+        "# Benchmarks\n\n\
+         Written by `bench/run`, on {machine}.\n\n\
+         Each proved call against an ordinary Rust version with the same checks (`bench/src/plain.rs`, held to the same model), \
+         both optimised by LLVM at level 3, in one process and in turns. A time is the median of {ROUNDS} rounds, with the \
+         quartiles; the ratio is the median of the rounds' ratios, with theirs. HOUSE images are mapped without \
+         reserving memory.\n\n\
+         ![The ratios](bench.svg)\n\n\
+         {}\n\
+         - Loads and stores: at 256 offsets of a book of eight blocks (16 offsets for 1 MiB), in an image with every block taken. \
+         Every other one crosses from one block to the next.\n\
+         - Open, grow, release, recover: every block of the image is taken, by some thousands of books, in any order. Grow is by one \
+         page for which the book needs another block. The book that is released has six.\n\
+         - The copying leaf is the loop that loads and stores copy with, against `copy_from_slice`.\n",
+        table(rows)
+    )
 }
 
 // The plot: a line of text and a bar for each row, on a scale of logarithms.

@@ -32,7 +32,8 @@ pub trait Subject {
     fn run(&mut self);
 }
 
-const ROUNDS: usize = 41;
+/// How often the two take turns.
+pub const ROUNDS: usize = 41;
 const SAMPLE: Duration = Duration::from_millis(4);
 
 /// The nanoseconds of a call, over so many runs.

@@ -12,8 +12,8 @@ fn bench_histories() {
 
 #[test]
 fn house_images() {
-    let tally = house::small(plain::make, 40, 2);
+    let tally = house::small(plain::make, 16, 2);
     print!("{tally}");
-    let tally = house::full(plain::make, 40, 3);
+    let tally = house::full(plain::make, 16, 3);
     print!("{tally}");
 }

@@ -89,98 +89,57 @@ pub struct Lent<'a> {
 /// A book manager: geometry by number, a call, what is lent; answers refusal × 2^32 + value.
 pub type Manager = fn(u32, Call, Lent<'_>) -> u64;
 
-/// Every condition under which the desk says no.
-#[derive(Clone, Copy, Debug, PartialEq, Eq, PartialOrd, Ord)]
-pub enum Why {
-    Geometry,
-    IndexLength,
-    ShortImage,
-    Marker,
-    Version,
-    Spare,
-    TakenAboveBlocks,
-    CounterOutside,
-    TailMissing,
-    AFixedNotOpen,
-    AOpenFromCounter,
-    BTooManyPages,
-    BReclaimedPart,
-    BKeptBackPages,
-    CSum,
-    DRegionNotOpen,
-    DPositionBeyondNeed,
-    DSamePair,
-    EUntaken,
-    BookTooManyPages,
-    IndexDiffers,
-    SlotBeyondBlocks,
-    SlotNotTaken,
-    SlotOfAnother,
-    RegionKeptBack,
-    RegionNone,
-    RegionNotOpen,
-    ReleaseAnonymous,
-    BeyondBook,
-    NoBlocksLeft,
-    NoRegionLeft,
-    NotBlank,
+macro_rules! reasons {
+    ($($name:ident: $number:literal,)*) => {
+        /// Every condition under which the desk says no.
+        #[derive(Clone, Copy, Debug, PartialEq, Eq, PartialOrd, Ord)]
+        pub enum Why { $($name,)* }
+
+        impl Why {
+            pub const ALL: &[Why] = &[$(Why::$name,)*];
+
+            /// The refusal's number.
+            pub fn number(self) -> u64 {
+                match self { $(Why::$name => $number,)* }
+            }
+        }
+    };
 }
 
-impl Why {
-    pub const ALL: [Why; 32] = [
-        Why::Geometry,
-        Why::IndexLength,
-        Why::ShortImage,
-        Why::Marker,
-        Why::Version,
-        Why::Spare,
-        Why::TakenAboveBlocks,
-        Why::CounterOutside,
-        Why::TailMissing,
-        Why::AFixedNotOpen,
-        Why::AOpenFromCounter,
-        Why::BTooManyPages,
-        Why::BReclaimedPart,
-        Why::BKeptBackPages,
-        Why::CSum,
-        Why::DRegionNotOpen,
-        Why::DPositionBeyondNeed,
-        Why::DSamePair,
-        Why::EUntaken,
-        Why::BookTooManyPages,
-        Why::IndexDiffers,
-        Why::SlotBeyondBlocks,
-        Why::SlotNotTaken,
-        Why::SlotOfAnother,
-        Why::RegionKeptBack,
-        Why::RegionNone,
-        Why::RegionNotOpen,
-        Why::ReleaseAnonymous,
-        Why::BeyondBook,
-        Why::NoBlocksLeft,
-        Why::NoRegionLeft,
-        Why::NotBlank,
-    ];
-
-    /// The refusal's number.
-    pub fn number(self) -> u64 {
-        use Why::*;
-        match self {
-            Geometry => 1,
-            IndexLength => 2,
-            ShortImage => 3,
-            Marker | Version | Spare | TakenAboveBlocks | CounterOutside => 4,
-            TailMissing => 5,
-            AFixedNotOpen | AOpenFromCounter | BTooManyPages | BReclaimedPart | BKeptBackPages | CSum
-            | DRegionNotOpen | DPositionBeyondNeed | DSamePair | EUntaken | BookTooManyPages => 6,
-            IndexDiffers | SlotBeyondBlocks | SlotNotTaken | SlotOfAnother => 7,
-            RegionKeptBack | RegionNone | RegionNotOpen | ReleaseAnonymous => 8,
-            BeyondBook => 9,
-            NoBlocksLeft => 10,
-            NoRegionLeft => 11,
-            NotBlank => 12,
-        }
-    }
+// A rule's reasons begin with its letter.
+reasons! {
+    Geometry: 1,
+    IndexLength: 2,
+    ShortImage: 3,
+    Marker: 4,
+    Version: 4,
+    Spare: 4,
+    TakenAboveBlocks: 4,
+    CounterOutside: 4,
+    TailMissing: 5,
+    AFixedNotOpen: 6,
+    AOpenFromCounter: 6,
+    BTooManyPages: 6,
+    BReclaimedPart: 6,
+    BKeptBackPages: 6,
+    CSum: 6,
+    DRegionNotOpen: 6,
+    DPositionBeyondNeed: 6,
+    DSamePair: 6,
+    EUntaken: 6,
+    BookTooManyPages: 6,
+    IndexDiffers: 7,
+    SlotBeyondBlocks: 7,
+    SlotNotTaken: 7,
+    SlotOfAnother: 7,
+    RegionKeptBack: 8,
+    RegionNone: 8,
+    RegionNotOpen: 8,
+    ReleaseAnonymous: 8,
+    BeyondBook: 9,
+    NoBlocksLeft: 10,
+    NoRegionLeft: 11,
+    NotBlank: 12,
 }
 
 /// What an accepted call answers, and the data bytes of the image that it read or wrote.
