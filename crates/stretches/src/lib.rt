@@ -1,0 +1,194 @@
+// The stretches of a book that n bytes from an offset on touch: found in the index, checked, and copied.
+ghost use mathlib.Core.Path.{_≡_};
+ghost use Prim.Native.Nat.{ℕ, _+_, _*_, _/_, _^_, _<_, _≤_, min};
+ghost use lib.ListN.{length};
+ghost use Rattle.paper.specs.Geometry.{Allowed, blockBytes, indexBytes};
+ghost use Rattle.paper.specs.Image.{front};
+ghost use Rattle.paper.specs.Index.{startIn, slotIn, blockIn};
+ghost use Rattle.paper.specs.Calls.{loaded, stored};
+ghost use Rattle.paper.specs.Refusals.{rightAt, touchedRight};
+ghost use Rattle.rules.specs.Facts.{Entered, Reads};
+ghost use Rattle.stretches.specs.Stretch.{blockFrom, firstTouched, endTouched, Touches, IsStretch};
+use paper::Block;
+use paper::Geometry;
+use paper::Offset;
+use paper::Region;
+
+// So many bytes from `at` on in the image, which are those from `skip` on of the bytes asked.
+pub struct Stretch {
+    pub at: usize,
+    pub skip: usize,
+    pub bytes: usize,
+}
+
+fn lesser(a: usize, b: usize) -> usize
+    ensures { λ r. ⌜ r ≡ min a b ⌝ }
+{
+    if a < b {
+        return a;
+    }
+    b
+}
+
+// ---- the index
+
+fn start_in(g: Geometry, index: &[u8], r: Region) -> u16
+    requires { ⌜ length (now index) ≡ indexBytes g ⌝ }
+    requires { ⌜ r .0 < g .entries ⌝ }
+    ensures { λ s. ⌜ s ≡ startIn g (now (index .entry)) (r .0) ⌝ }
+{
+    numbers::read_u16(index, g.start_at(r))
+}
+
+fn slot_in(g: Geometry, index: &[u8], s: usize) -> Block
+    requires { ⌜ Allowed g × (length (now index) ≡ indexBytes g) ⌝ }
+    requires { ⌜ s < g .blocks ⌝ }
+    ensures { λ b. ⌜ b .0 ≡ slotIn g (now (index .entry)) s ⌝ }
+{
+    Block(numbers::read_u16(index, g.slot_at(s)))
+}
+
+// ---- the touched positions
+
+fn first_touched(g: Geometry, offset: Offset) -> usize
+    requires { ⌜ Allowed g ⌝ }
+    ensures { λ p. ⌜ p ≡ firstTouched g (offset .0) ⌝ }
+{
+    offset.0 as usize / g.block_bytes()
+}
+
+fn end_touched(g: Geometry, offset: Offset, n: usize) -> usize
+    requires { ⌜ Allowed g × (offset .0 + n < 2 ^ 40) ⌝ }
+    ensures { λ p. ⌜ p ≡ endTouched g (offset .0) n ⌝ }
+{
+    let o = offset.0 as usize;
+    let w = g.block_bytes();
+    if n == 0 {
+        return o / w;
+    }
+    (o + n - 1) / w + 1
+}
+
+// Position p of region r, whose block numbers start at `start`.
+fn right_at(g: Geometry, image: &[u8], index: &[u8], r: Region, start: u16, p: usize) -> bool
+    requires { ⌜ Entered g (now image) (now index) ⌝ }
+    requires { ⌜ (start ≡ startIn g (now index) (r .0)) × (p < 2 ^ 40) ⌝ }
+    ensures { λ t. ⌜ t ≡ rightAt g (front g (now (image .entry))) (now (index .entry)) (r .0) p ⌝ }
+{
+    let s = start as usize + p;
+    if g.blocks <= s {
+        return false;
+    }
+    let b = slot_in(g, index, s);
+    if image::taken(g, image) <= b.0 {
+        return false;
+    }
+    if image::owner(g, image, b).0 != r.0 {
+        return false;
+    }
+    image::place(g, image, b) as usize == p
+}
+
+// Each touched position has its block in the index.
+pub fn touched_right(
+    g: Geometry,
+    image: &[u8],
+    index: &[u8],
+    r: Region,
+    offset: Offset,
+    n: usize,
+) -> bool
+    requires { ⌜ Entered g (now image) (now index) ⌝ }
+    requires { ⌜ (r .0 < g .entries) × (offset .0 + n < 2 ^ 40) ⌝ }
+    ensures { λ t. ⌜ t ≡ touchedRight g (front g (now (image .entry))) (now (index .entry)) (r .0) (offset .0) n ⌝ }
+{
+    let start = start_in(g, index, r);
+    let first = first_touched(g, offset);
+    let end = end_touched(g, offset, n);
+    for p in first..end {
+        if !right_at(g, image, index, r, start, p) {
+            return false;
+        }
+    }
+    true
+}
+
+// ---- a stretch
+
+// Of n bytes from the offset on, those that fall into position p, which they touch.
+fn stretch_at(g: Geometry, index: &[u8], start: u16, p: usize, offset: Offset, n: usize) -> Stretch
+    requires { ⌜ Allowed g × (length (now index) ≡ indexBytes g) × (start + p < g .blocks) ⌝ }
+    requires { ⌜ Touches g (offset .0) n p × (offset .0 + n < 2 ^ 40) ⌝ }
+    ensures { λ s. ⌜ IsStretch g (blockFrom g (now (index .entry)) start p) (offset .0) n p s ⌝ }
+{
+    let o = offset.0 as usize;
+    let w = g.block_bytes();
+    let begin = p * w;
+    let end = lesser(o + n - begin, w);
+    let block = g.data_at(slot_in(g, index, start as usize + p));
+    if begin < o {
+        let a = o - begin;
+        return Stretch {
+            at: block + a,
+            skip: 0,
+            bytes: end - a,
+        };
+    }
+    Stretch {
+        at: block,
+        skip: begin - o,
+        bytes: end,
+    }
+}
+
+// The first stretch of a load of n bytes.
+pub fn first_stretch(g: Geometry, index: &[u8], r: Region, offset: Offset, n: usize) -> Stretch
+    requires { ⌜ Allowed g × (length (now index) ≡ indexBytes g) × (r .0 < g .entries) ⌝ }
+    requires { ⌜ (startIn g (now index) (r .0) + firstTouched g (offset .0) < g .blocks) × (0 < n) × (offset .0 + n < 2 ^ 40) ⌝ }
+    ensures { λ s. ⌜ IsStretch g (blockIn g (now (index .entry)) (r .0) (firstTouched g (offset .0))) (offset .0) n (firstTouched g (offset .0)) s ⌝ }
+{
+    let start = start_in(g, index, r);
+    stretch_at(g, index, start, first_touched(g, offset), offset, n)
+}
+
+// ---- stretch by stretch
+
+// The book's bytes from the offset on, as many as the buffer holds.
+pub fn copy_out(
+    g: Geometry,
+    image: &[u8],
+    index: &[u8],
+    r: Region,
+    offset: Offset,
+    buffer: &mut [u8],
+)
+    requires { ⌜ Reads g (now image) (now index) (r .0) (offset .0) (length (now buffer)) ⌝ }
+    ensures { λ _. ⌜ now (buffer .exit) ≡ loaded g (blockIn g (now (index .entry)) (r .0)) (offset .0) (length (now (buffer .entry))) (now (image .entry)) ⌝ }
+{
+    let n = buffer.len();
+    let start = start_in(g, index, r);
+    let first = first_touched(g, offset);
+    let end = end_touched(g, offset, n);
+    for p in first..end {
+        let s = stretch_at(g, index, start, p, offset, n);
+        let at = s.at;
+        let skip = s.skip;
+        let bytes = s.bytes;
+        numbers::copy(&image[at..at + bytes], &mut buffer[skip..skip + bytes]);
+    }
+}
+
+// The bytes into the book from the offset on.
+pub fn copy_in(g: Geometry, image: &mut [u8], index: &[u8], r: Region, offset: Offset, bytes: &[u8])
+    requires { ⌜ Reads g (now image) (now index) (r .0) (offset .0) (length (now bytes)) ⌝ }
+    ensures { λ _. ⌜ now (image .exit) ≡ stored g (blockIn g (now (index .entry)) (r .0)) (endTouched g (offset .0) (length (now (bytes .entry)))) (offset .0) (now (bytes .entry)) (now (image .entry)) ⌝ }
+{
+    let n = bytes.len();
+    let start = start_in(g, index, r);
+    let first = first_touched(g, offset);
+    let end = end_touched(g, offset, n);
+    for p in first..end {
+        let s = stretch_at(g, index, start, p, offset, n);
+        numbers::copy_part(bytes, s.skip, image, s.at, s.bytes);
+    }
+}
