@@ -1,0 +1,134 @@
+-- Demand 3, proved: after an accepted lay or recover and any calls, a caller sees the books that the calls and their answers tell.
+use Prim.Native.Nat.{ℕ, _<_, _≤_}
+use mathlib.Core.Path.{_≡_, refl, sym, _∙_, ap, ap₂}
+use mathlib.Core.List.{List, [], _∷_, _++_}
+use native.Mathlib.Omega.{arith}
+use native.Mathlib.Decide.{ℕ-discrete, decLt}
+use borrow.Author.Tests.{ne-eqb, le-leb, lt-leb}
+use lib.ListN.{length}
+use Rattle.paper.specs.declared.Geometry.{Geometry}
+use Rattle.paper.specs.declared.Answer.the-variants.{Done}
+use Rattle.paper.specs.Geometry.{fixedRegions, reclaimed, Allowed, blockBytes, capacity}
+use Rattle.paper.specs.Image.{front, rest}
+use Rattle.paper.specs.Calls.{Call, lay, recover, laid}
+use Rattle.paper.specs.Refusals.{refusal}
+use Rattle.paper.specs.Outcomes.{numberOf, State, Outcome, accepted, outcome}
+use Rattle.rules.proofs.Cells.{front-joined, length-joined}
+use Rattle.rules.proofs.Laid.{length-laid, laid-formed, laid-index, laid-fixed, laid-open, laid-not-open}
+use Rattle.rules.proofs.First.{entered-formed}
+use Rattle.rules.proofs.Checks.{lay-accepted, recover-accepted}
+use Rattle.rules.proofs.Outcomes.{outcome-done, outcome-number}
+use Rattle.keeping.proofs.Books.{book-empty}
+use Rattle.history.specs.History.{Books, Exchange, Moment, fresh, noted, after, Demand3, Run, told, Demand3Seen, found, FromRecovered}
+use Rattle.history.proofs.Sound.{Sound, sound-next}
+use Rattle.history.proofs.Seen.{sound-agrees}
+
+module _ (g : Geometry) where
+  -- what is done was not refused
+  not-refused : (c : Call) (s : State) (o : Outcome) → o ≡ outcome g c s → o .answer ≡ Done 0 → refusal g (s .image) (s .index) c ≡ 0
+  not-refused c s o e d = sym (outcome-number g c s) ∙ ap (λ o. numberOf (o .answer)) (sym e) ∙ ap numberOf d
+
+  -- ---- the first moment, after laying
+  sound-laid : (s : State) → refusal g (s .image) (s .index) lay ≡ 0 → Sound g (length (s .image)) (outcome g lay s .state) (fresh g)
+  unfolding accepted
+  sound-laid s e = rw (outcome-done g lay s e) (record {
+    ordered = record {
+      geometry = A;
+      long = omega (arith, len, long);
+      formed = rw (fr, len) (laid-formed g A (capacity g (length (s .image))));
+      recovered = rw fr (sym (laid-index g A));
+    };
+    as-long = len;
+    agree = λ q. agree q (ℕ-discrete q reclaimed) (decLt q fixedRegions);
+  })
+    where
+      A : Allowed g
+      A = lay-accepted g (s .image) (s .index) e .0
+
+      long : blockBytes g ≤ length (s .image)
+      long = lay-accepted g (s .image) (s .index) e .2
+
+      x : List ℕ
+      x = laid g ++ rest g (s .image)
+
+      fr : front g (laid g ++ rest g (s .image)) ≡ laid g
+      fr = front-joined g (laid g) (s .image) (length-laid g A)
+
+      len : length (laid g ++ rest g (s .image)) ≡ length (s .image)
+      len = length-joined g (laid g) (s .image) (length-laid g A) (omega (arith, long, A .reserve))
+
+      agree : (q : ℕ) → Dec (q ≡ reclaimed) → Dec (q < fixedRegions) → fresh g q ≡ found g (laid g ++ rest g (s .image)) q
+      agree q (yes d) _ = rw d
+      agree q (no d) (yes l) =
+          rw (ne-eqb q reclaimed d, lt-leb fixedRegions q l, fr, laid-open g A q l, book-empty g (laid g) x q (laid-fixed g A q l))
+      agree q (no d) (no l) =
+          rw (ne-eqb q reclaimed d, le-leb fixedRegions q (omega arith), fr, laid-not-open g A q (omega arith))
+
+  -- or after recovery
+  sound-recovered : (s : State) → refusal g (s .image) (s .index) recover ≡ 0 → Sound g (length (s .image)) (outcome g recover s .state) (found g (s .image))
+  unfolding accepted
+  sound-recovered s e =
+      let a = recover-accepted g (s .image) (s .index) e in
+      rw (outcome-done g recover s e) (record {
+        ordered = record {
+          geometry = a .0 .geometry;
+          long = a .0 .long;
+          formed = entered-formed g (s .image) (s .index) (a .0) (a .1);
+          recovered = refl;
+        };
+        as-long = refl;
+        agree = λ q. refl;
+      })
+
+  -- ---- any calls
+  sound-after : (bytes : ℕ) (cs : List Call) (m : Moment) → Sound g bytes (m .state) (m .books) → Sound g bytes (after g cs m .state) (after g cs m .books)
+  unfolding after
+  sound-after bytes [] m S = S
+  sound-after bytes (c ∷ cs) m S = sound-after bytes cs _ (sound-next g bytes (m .state) (m .books) S c)
+
+  pub demand3 : Demand3 g
+  unfolding Demand3
+  demand3 s o e d cs =
+      let m : Moment = record { state = o .state; books = fresh g } in
+      let S : Sound g (length (s .image)) (o .state) (fresh g) = rw e (sound-laid s (not-refused lay s o e d)) in
+      sound-agrees g (length (s .image)) (after g cs m .state) (after g cs m .books) (sound-after (length (s .image)) cs m S)
+
+  pub from-recovered : FromRecovered g
+  unfolding FromRecovered
+  from-recovered s o e d cs =
+      let m : Moment = record { state = o .state; books = found g (s .image) } in
+      let S : Sound g (length (s .image)) (o .state) (found g (s .image)) = rw e (sound-recovered s (not-refused recover s o e d)) in
+      sound-agrees g (length (s .image)) (after g cs m .state) (after g cs m .books) (sound-after (length (s .image)) cs m S)
+
+  -- ---- a run that someone saw is the history of its calls
+  abbrev pub callsOf : List Exchange → List Call
+  callsOf [] = []
+  callsOf (e ∷ es) = e .call ∷ callsOf es
+
+  pub run-history : (es : List Exchange) (s s′ : State) (books : Books) → Run g s es s′
+      → after g (callsOf es) (record { state = s; books = books }) ≡ record { state = s′; books = told g es books }
+  unfolding Run told after
+  run-history [] s s′ books r = ap (λ s. record { state = s; books = books }) r
+  run-history (e ∷ es) s s′ books r =
+      ap (λ o. after g (callsOf es) (record { state = o .state; books = noted g (e .call) (o .answer) books })) (sym (r .0))
+      ∙ run-history es (e .got .state) s′ (noted g (e .call) (e .got .answer) books) (r .1)
+
+  -- two runs of the same calls are one
+  pub run-only : (es fs : List Exchange) (s s′ s″ : State) → callsOf es ≡ callsOf fs → Run g s es s′ → Run g s fs s″ → es ≡ fs
+  unfolding Run
+  run-only [] [] s s′ s″ e r q = refl
+  run-only [] (f ∷ fs) s s′ s″ e r q = let z : _≡_ {A = ℕ} 0 1 = cc in absurd (omega arith)
+  run-only (e ∷ es) [] s s′ s″ d r q = let z : _≡_ {A = ℕ} 0 1 = cc in absurd (omega arith)
+  run-only (e ∷ es) (f ∷ fs) s s′ s″ d r q =
+      let a : e .call ≡ f .call = cc in
+      let b : callsOf es ≡ callsOf fs = cc in
+      let c : e .got ≡ f .got = r .0 ∙ rw a (sym (q .0)) in
+      let w : Run g (e .got .state) fs s″ = rw c (q .1) in
+      ap₂ (λ x xs. x ∷ xs) (ap₂ (λ x y. record { call = x; got = y }) a c) (run-only es fs (e .got .state) s′ s″ b (r .1) w)
+
+  pub demand3-seen : Demand3Seen g
+  unfolding Demand3Seen Demand3
+  demand3-seen s s′ o e d es r =
+      let m : Moment = record { state = o .state; books = fresh g } in
+      let h = run-history es (o .state) s′ (fresh g) r in
+      rw h at (demand3 s o e d (callsOf es))
