@@ -1,5 +1,4 @@
 -- The shared refusals: which number a list of checks answers, what that shows, and what the lists that go on from it answer.
--- ---- checks cs, then ds
 use Prim.Native.Nat.{ℕ, _≤_, _<_}
 use mathlib.Core.Bool.{true, false, _||_}
 use mathlib.Core.Logic.{_≢_, _⊎_, ⊎-elim}
@@ -24,6 +23,7 @@ use Rattle.rules.proofs.Outcomes.{outcome-done, outcome-refused}
 use Rattle.image.specs.Readable.{Readable}
 use Rattle.desk.specs.Shared.{Sound, earlyChecks, Early, indexedChecks, EarlyIndexed, bookChecks, Book}
 
+-- ---- checks cs, then ds
 module _ (cs ds : List Check) (n : numbered cs ≡ true) where
   pub first-then : first cs ≡ 0 → first (cs ++ ds) ≡ first ds
   first-then e = first-append cs ds n ∙ rw e

@@ -1,5 +1,4 @@
 -- The rules' sentences, as the passes over the tables ask them.
--- a pass from a that went to i, past the end
 use Prim.Native.Nat.{ℕ, _+_, _≤_, _<_}
 use mathlib.Core.Bool.{Bool, true, false}
 use mathlib.Core.Path.{_≡_, refl, sym}
@@ -15,6 +14,7 @@ use Rattle.paper.specs.Image.{Size, notOpen, holds, taken, owner, place, sizeOf
 use Rattle.paper.specs.WellFormed.{fits, ruleC, named}
 use Rattle.rules.proofs.Facts.{is-open, is-not-open, need-not-open}
 
+-- a pass from a that went to i, past the end
 pub from-end : (a e i : ℕ) (p : ℕ → Bool) → e ≤ i → allFrom a i p ≡ true → allFrom a e p ≡ true
 from-end a e i p l h = from-all a e p (λ k lo hi. all-from a i p h k lo (omega arith))
 

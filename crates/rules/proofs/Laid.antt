@@ -28,7 +28,7 @@ use Rattle.rules.proofs.Facts.{open-below, is-open, is-not-open, is-pas
 use Rattle.rules.proofs.First.{image-formed}
 
 -- lists of one element, made by a fold
-listFrom-same : (i n x : ℕ) → listFrom i n (λ k. x) ≡ replicate n x
+pub listFrom-same : (i n x : ℕ) → listFrom i n (λ k. x) ≡ replicate n x
 unfolding listFrom
 listFrom-same i zero x = refl
 listFrom-same i (suc n) x = rw (listFrom-same (suc i) n x)
@@ -39,11 +39,11 @@ join-nil zero = refl
 join-nil (suc n) = rw (join-nil n)
 
 module _ (g : Geometry) (A : Allowed g) where
-  length-laidEntry : (b : ℕ) → length (laidEntry g b) ≡ 4
+  pub length-laidEntry : (b : ℕ) → length (laidEntry g b) ≡ 4
   unfolding laidEntry
   length-laidEntry b = simp (length-append, length-le)
 
-  length-laidSize : (r : ℕ) → length (laidSize g r) ≡ 8
+  pub length-laidSize : (r : ℕ) → length (laidSize g r) ≡ 8
   unfolding laidSize
   length-laidSize r = length-le 8 (cond (ltb r fixedRegions) 0 allOnes)
 

@@ -1,0 +1,2 @@
+-- What lay writes, joined to the paper's.
+pub mod Laws
