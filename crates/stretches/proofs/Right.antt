@@ -12,14 +12,15 @@ use Rattle.laws.proofs.Tests.{and-parts, and-false-left, and-false-right}
 use Rattle.laws.proofs.Folds.{all-from}
 use Rattle.paper.specs.declared.Geometry.{Geometry}
 use Rattle.paper.specs.Geometry.{blockBytes, dataAt, capacity}
-use Rattle.paper.specs.Image.{front, taken, owner, place, names}
+use Rattle.paper.specs.Image.{front, taken, owner, place, names, pagesOf, needOf}
 use Rattle.paper.specs.Index.{startIn, blockIn}
 use Rattle.paper.specs.Refusals.{rightAt, touched, touchedRight}
-use Rattle.paper.proofs.Counting.{block-positive, block-within, book-bytes-bound}
+use Rattle.paper.proofs.Counting.{block-within, book-bytes-bound}
 use Rattle.rules.specs.Facts.{Reads}
+use Rattle.rules.proofs.Facts.{need-open}
 use Rattle.rules.proofs.Checks.{usable-facts}
 use Rattle.stretches.specs.Stretch.{blockFrom, firstTouched, endTouched, Touches}
-use Rattle.stretches.proofs.Touched.{touches}
+use Rattle.stretches.proofs.Touched.{touches, end-need}
 
 -- position p of region r has its block
 pub record Right (g : Geometry) (t index : List ℕ) (r p : ℕ) : Type 0 where
@@ -78,6 +79,12 @@ module _ (g : Geometry) (image index : List ℕ) (r o n : ℕ) (R : Reads g imag
   pub reads-bound : o + n ≤ 549755813888
   reads-bound = omega (arith, R .within, book-bytes-bound g _ (R .entered .geometry) (R .fits))
 
+  -- the touched positions end within the book's need
+  pub reads-need : endTouched g o n ≤ needOf g (front g image) r
+  reads-need =
+      rw (need-open g (front g image) r (usable-facts g (front g image) r (R .usable) .2))
+      (end-need g (R .entered .geometry) o n (pagesOf g (front g image) r) (R .within))
+
   module _ (p : ℕ) (lo : firstTouched g o ≤ p) (hi : p < endTouched g o n) where
     pub reads-right : Right g (front g image) index r p
     reads-right =
@@ -94,6 +101,6 @@ module _ (g : Geometry) (image index : List ℕ) (r o n : ℕ) (R : Reads g imag
     pub reads-step : (start : ℕ) → start ≡ startIn g index r → Step g index start o n p (length image)
     reads-step start e = rw e (record {
       slot = reads-right .slot;
-      touches = touches g (block-positive g (R .entered .geometry)) o n p lo hi;
+      touches = touches g (R .entered .geometry) o n p lo hi;
       fits = reads-within;
     })

@@ -1,48 +1,26 @@
--- The positions that n bytes from offset o on touch, and the bytes of each that they cover.
+-- The positions that n bytes from offset o on touch, as a walk counts them, and the bytes of each that they cover.
 use Prim.Native.Nat.{ℕ, suc, _+_, _-_, _*_, _/_, _≤_, _<_, min}
 use mathlib.Core.Logic.{_≢_}
-use mathlib.Core.Path.{_≡_, refl, sym, _∙_, ap}
+use mathlib.Core.Path.{_≡_, sym, _∙_}
 use native.Mathlib.Omega.{arith}
-use native.Mathlib.Nat.{add-zero, add-mul, one-mul, mul-le-mul-right, div-mul-le-self, le-div-iff-mul-le, div-lt-iff-lt-mul, div-le-self}
+use native.Mathlib.Nat.{mul-le-mul-right, le-of-mul-le-mul-right, lt-div-mul-add, div-le-self, div-mul-le-self}
 use native.Mathlib.Decide.{ℕ-discrete, decLe}
-use borrow.Author.Tests.{eq-eqb, ne-eqb}
 use Rattle.paper.specs.declared.Geometry.{Geometry}
-use Rattle.paper.specs.Geometry.{blockBytes}
+use Rattle.paper.specs.Geometry.{blockBytes, Allowed, need}
 use Rattle.paper.specs.Refusals.{touched}
-use Rattle.stretches.specs.Stretch.{firstTouched, endTouched, cutFrom, cutTo, Touches}
+use Rattle.paper.proofs.Counting.{block-positive, book-spans}
+use Rattle.rules.proofs.Touched.{touched-none, touched-some, position-mono, touched-starts, touched-below}
+use Rattle.stretches.specs.Stretch.{firstTouched, endTouched, Touches}
 
--- ---- division by a block's bytes
-pub div-mono : (w a b : ℕ) → 0 < w → a ≤ b → a / w ≤ b / w
-div-mono w a b pos h = le-div-iff-mul-le {x = a / w} {y = b} pos .1 (omega (arith, div-mul-le-self a w))
-
-pub next-block : (p w : ℕ) → (p + 1) * w ≡ p * w + w
-next-block p w = add-mul p 1 w ∙ ap (λ (k : ℕ). p * w + k) (one-mul w)
-
--- ---- the touched positions
-module _ (g : Geometry) (pos : 0 < blockBytes g) (o n : ℕ) where
+module _ (g : Geometry) (A : Allowed g) (o n : ℕ) where
   abbrev w : ℕ
   w = blockBytes g
 
   pub end-none : n ≡ 0 → endTouched g o n ≡ firstTouched g o
-  unfolding touched
-  end-none e = rw (eq-eqb n 0 e) (omega arith)
+  end-none e = omega (arith, touched-none g o n e)
 
   pub end-some : n ≢ 0 → endTouched g o n ≡ (o + n - 1) / w + 1
-  unfolding touched
-  end-some ne = rw (ne-eqb n 0 ne) (omega (arith, div-mono w o (o + n - 1) pos (omega arith)))
-
-  some : (p : ℕ) → firstTouched g o ≤ p → p < endTouched g o n → n ≢ 0
-  some p lo hi e = omega (arith, end-none e)
-
-  pub touches : (p : ℕ) → firstTouched g o ≤ p → p < endTouched g o n → Touches g o n p
-  touches p lo hi =
-      let ne = some p lo hi in
-      let l : p ≤ (o + n - 1) / w = omega (arith, end-some ne) in
-      let k : o / w < p + 1 = omega arith in
-      record {
-        begins = omega (arith, le-div-iff-mul-le {k = w} {x = p} {y = o + n - 1} pos .0 l);
-        ends = omega (arith, div-lt-iff-lt-mul {k = w} {x = o} {y = p + 1} pos .0 k, next-block p w);
-      }
+  end-some ne = omega (arith, touched-some g o n ne, position-mono g A o (o + n - 1) (omega arith))
 
   pub end-bound : endTouched g o n ≤ o + n
   end-bound = go (ℕ-discrete n 0)
@@ -51,87 +29,64 @@ module _ (g : Geometry) (pos : 0 < blockBytes g) (o n : ℕ) where
       go (yes e) = omega (arith, end-none e, div-le-self o w)
       go (no ne) = omega (arith, end-some ne, div-le-self (o + n - 1) w)
 
-  -- a byte that is asked stands at a touched position
-  pub byte-touched : (i : ℕ) → o ≤ i → i < o + n → (firstTouched g o ≤ i / w) × (i / w < endTouched g o n)
-  byte-touched i lo hi =
-      let ne : n ≢ 0 = λ e. omega arith in
-      (div-mono w o i pos lo, omega (arith, end-some ne, div-mono w i (o + n - 1) pos (omega arith)))
+  pub touches : (p : ℕ) → firstTouched g o ≤ p → p < endTouched g o n → Touches g o n p
+  touches p lo hi =
+      let e : firstTouched g o + (p - firstTouched g o) ≡ p = omega arith in
+      record {
+        begins = rw e at (touched-starts g A o n (p - firstTouched g o) (omega arith));
+        ends = omega (arith, lt-div-mul-add {a = o} {b = w} (block-positive g A), mul-le-mul-right w lo);
+      }
 
-  -- the last byte asked lies before the end of the touched positions
-  pub ends-all : n ≢ 0 → o + n ≤ endTouched g o n * w
-  ends-all ne =
-      rw (end-some ne) (omega (arith, div-lt-iff-lt-mul {k = w} {x = o + n - 1} {y = (o + n - 1) / w + 1} pos .0 (omega arith)))
+  -- in a book that holds the bytes the touched positions end within its need
+  pub end-need : (pages : ℕ) → o + n ≤ pages * g .page → endTouched g o n ≤ need g pages
+  end-need pages fits = go (ℕ-discrete (touched g o n) 0)
+    where
+      go : Dec (touched g o n ≡ 0) → endTouched g o n ≤ need g pages
+      go (yes e) =
+          let l : o ≤ need g pages * w = omega (arith, book-spans g A pages) in
+          omega (arith, reach (o / w) (need g pages) (div-mul-le-self o w) l)
+        where
+          reach : (q k : ℕ) → q * w ≤ o → o ≤ k * w → q ≤ k
+          reach q k a b = le-of-mul-le-mul-right {m = q} {n = k} {k = w} (omega arith) (block-positive g A)
+      go (no ne) =
+          let l = touched-below g A o n pages (touched g o n - 1) fits (omega arith) in
+          omega arith
+
+cut-whole : (z n w : ℕ) → z < n → z + (min (n - z) w - min 0 w) ≡ min (z + w) n
+cut-whole z n w h = omega arith
+
+cut-part : (y n w : ℕ) → y < w → 0 + (min (y + n) w - min y w) ≡ min (w - y) n
+cut-part y n w h = omega arith
 
 -- ---- of the block at position p, whose first byte is the book's byte q: from byte o - q up to byte o + n - q, within the block
-cut-shift : (z w : ℕ) → min (min z w - min 0 w) z ≡ min z w - min 0 w
-cut-shift z w = omega arith
-
-cut-whole : (y n w : ℕ) → min (min (y + n) w - min y w) (n - 0) ≡ min (y + n) w - min y w
-cut-whole y n w = omega arith
-
 module _ (o n q w : ℕ) where
-  idle-before : q + w ≤ o → min (o + n - q) w ≤ min (o - q) w
-  idle-before h = omega arith
-
-  idle-after : o + n ≤ q → min (o + n - q) w ≤ min (o - q) w
-  idle-after h = omega arith
-
-  -- so many of the bytes asked are there to be copied
-  pub cut-length : min (min (o + n - q) w - min (o - q) w) (n - (q - o)) ≡ min (o + n - q) w - min (o - q) w
-  cut-length = go (decLe o q)
-    where
-      go : Dec (o ≤ q) → min (min (o + n - q) w - min (o - q) w) (n - (q - o)) ≡ min (o + n - q) w - min (o - q) w
-      go (yes h) =
-          let e : o - q ≡ 0 = omega arith in
-          let f : o + n - q ≡ n - (q - o) = omega arith in
-          rw (e, f) (cut-shift (n - (q - o)) w)
-      go (no h) =
-          let e : q - o ≡ 0 = omega arith in
-          let f : o + n - q ≡ (o - q) + n = omega arith in
-          rw (e, f) (cut-whole (o - q) n w)
-
+  -- the stretch lies in the block
   pub cut-inside : min (o - q) w + (min (o + n - q) w - min (o - q) w) ≤ w
   cut-inside = omega arith
 
-  pub cut-from : o < q + w → min (o - q) w ≡ o - q
-  cut-from h = omega arith
+  module _ (begins : q < o + n) (ends : o < q + w) where
+    pub cut-from : min (o - q) w ≡ o - q
+    cut-from = omega arith
 
-  -- byte j of the block: before, after, or among those asked
-  module _ (j : ℕ) (l : j < w) where
-    pub cut-before : q + j < o → j < min (o - q) w
-    cut-before h = omega arith
+    -- and starts there in the book
+    pub cut-start : q + min (o - q) w ≡ o + (q - o)
+    cut-start = omega arith
 
-    pub cut-after : o + n ≤ q + j → min (o - q) w + (min (o + n - q) w - min (o - q) w) ≤ j
-    cut-after h = omega arith
+    -- the bytes asked before it, and those up to its end
+    pub cut-before : min (q - o) n ≡ q - o
+    cut-before = omega arith
 
-    pub cut-in : o ≤ q + j → q + j < o + n → (min (o - q) w ≤ j) × (j - min (o - q) w < min (o + n - q) w - min (o - q) w)
-    cut-in lo hi = omega arith
-
-    pub cut-index : o ≤ q + j → (q - o) + (j - min (o - q) w) ≡ q + j - o
-    cut-index lo = omega arith
-
--- a touched position is among the bytes asked
-pub cut-room : (o n q w : ℕ) → q < o + n → (q - o) + (min (o + n - q) w - min (o - q) w) ≤ n
-cut-room o n q w h = go (decLe o q)
-  where
-    go : Dec (o ≤ q) → (q - o) + (min (o + n - q) w - min (o - q) w) ≤ n
-    go (yes l) = omega arith
-    go (no l) = let e : q - o ≡ 0 = omega arith in rw e (omega arith)
-
--- ---- an untouched position has no byte that is asked
-module _ (g : Geometry) (pos : 0 < blockBytes g) (o n p : ℕ) where
-  abbrev bb : ℕ
-  bb = blockBytes g
-
-  pub untouched-before : p < firstTouched g o → cutTo g o n p ≤ cutFrom g o p
-  untouched-before h =
-      let l : p + 1 ≤ o / bb = omega arith in
-      idle-before o n (p * bb) bb (omega (arith, le-div-iff-mul-le {k = bb} {x = p + 1} {y = o} pos .0 l, next-block p bb))
-
-  pub untouched-after : endTouched g o n ≤ p → cutTo g o n p ≤ cutFrom g o p
-  untouched-after h = go (ℕ-discrete n 0)
-    where
-      go : Dec (n ≡ 0) → cutTo g o n p ≤ cutFrom g o p
-      go (yes e) = rw (e, add-zero) (omega arith)
-      go (no ne) =
-          idle-after o n (p * bb) bb (omega (arith, ends-all g pos o n ne, mul-le-mul-right {m = endTouched g o n} {n = p} bb h))
+    pub cut-after : (q - o) + (min (o + n - q) w - min (o - q) w) ≡ min (q + w - o) n
+    cut-after = go (decLe o q)
+      where
+        go : Dec (o ≤ q) → (q - o) + (min (o + n - q) w - min (o - q) w) ≡ min (q + w - o) n
+        go (yes l) =
+            let e : o - q ≡ 0 = omega arith in
+            let f : o + n - q ≡ n - (q - o) = omega arith in
+            let h : q + w - o ≡ q - o + w = omega arith in
+            rw (e, f, h) (cut-whole (q - o) n w (omega arith))
+        go (no l) =
+            let e : q - o ≡ 0 = omega arith in
+            let f : o + n - q ≡ o - q + n = omega arith in
+            let h : q + w - o ≡ w - (o - q) = omega arith in
+            rw (e, f, h) (cut-part (o - q) n w (omega arith))

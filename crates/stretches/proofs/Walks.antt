@@ -1,30 +1,42 @@
 -- A walk over the touched positions, stretch by stretch: what a load has read, and what a store has written, before position p.
-use Prim.Native.Nat.{ℕ, zero, suc, _+_, _-_, _*_, _/_, _%_, _≤_, _<_, min}
-use mathlib.Core.Path.{_≡_, refl, sym, _∙_, ap, subst}
-use mathlib.Core.List.{List, [], _∷_}
+use Prim.Native.Nat.{ℕ, _+_, _-_, _*_, _≤_, _<_, min}
+use mathlib.Core.Logic.{_≢_}
+use mathlib.Core.Path.{_≡_, refl, sym, _∙_, ap}
+use mathlib.Core.List.{List, [], _++_}
 use native.Mathlib.Omega.{arith}
-use native.Mathlib.Nat.{add-zero, zero-add, div-mul-le-self}
+use native.Mathlib.Nat.{zero-add, suc-mul, div-mul-le-self}
 use native.Mathlib.Numerals.{add-one}
-use native.Mathlib.Decide.{ℕ-discrete, decLt, decLe}
-use lib.Arith.{digits-div, digits-mod}
-use lib.ListN.{take, drop, getD, length, length-drop, take-append-drop}
-use lib.Seq.{ext-getD, getD-take, getD-drop, length-take-le}
+use native.Mathlib.Decide.{ℕ-discrete}
+use lib.ListN.{take, drop, length, length-drop}
+use lib.Seq.{length-take-le}
 use Rattle.laws.specs.Folds.{steps}
 use Rattle.laws.specs.Bytes.{splice}
-use Rattle.laws.proofs.Lists.{length-listFrom, getD-listFrom, length-splice, splice-before, splice-in}
+use Rattle.laws.proofs.Lists.{length-splice, splice-then, splice-nil, splice-all}
+use Rattle.laws.proofs.Folds.{steps-none, steps-more}
 use Rattle.paper.specs.declared.Geometry.{Geometry}
-use Rattle.paper.specs.Geometry.{blockBytes, dataAt}
-use Rattle.paper.specs.Calls.{addressOf, loaded, stretch, stored}
-use Rattle.stretches.specs.Stretch.{firstTouched, endTouched, cutFrom, cutTo, Touches}
-use Rattle.stretches.proofs.Touched.{next-block, ends-all, cut-inside, cut-in, cut-index, cut-room, untouched-before, untouched-after}
+use Rattle.paper.specs.Geometry.{blockBytes, Allowed, dataAt}
+use Rattle.paper.specs.Calls.{loaded, stretch, stored}
+use Rattle.paper.specs.Refusals.{touched}
+use Rattle.rules.proofs.Touched.{touched-ends}
+use Rattle.keeping.proofs.Loaded.{length-loaded, loaded-none, loaded-add, loaded-within}
+use Rattle.keeping.proofs.Stored.{stored-touched}
+use Rattle.stretches.specs.declared.Stretch.{Stretch}
+use Rattle.stretches.specs.Stretch.{firstTouched, endTouched, cutFrom, cutTo, Touches, IsStretch}
+use Rattle.stretches.proofs.Touched.{cut-inside, cut-start, cut-before, cut-after}
 
--- byte j of the block at position p
-pub address-at : (g : Geometry) (at : ℕ → ℕ) (p j : ℕ) → j < blockBytes g → addressOf g at (p * blockBytes g + j) ≡ dataAt g (at p) + j
-address-at g at p j h = rw (digits-div p h, digits-mod p h)
-
--- the stretch lies in its block, and the block in the image
-pub within : (d a k w l : ℕ) → a + k ≤ w → d + w ≤ l → d + a + k ≤ l
+-- a stretch lies in its block, and the block in the image
+within : (d a k w l : ℕ) → a + k ≤ w → d + w ≤ l → d + a + k ≤ l
 within d a k w l h f = omega arith
+
+-- a touched position's stretch lies in the image and among the bytes asked
+pub stretch-fits : (g : Geometry) (b o n p bytes : ℕ) (s : Stretch) → IsStretch g b o n p s → Touches g o n p → dataAt g b + blockBytes g ≤ bytes
+    → (s .at + s .bytes ≤ bytes) × (s .skip + s .bytes ≤ n)
+stretch-fits g b o n p bytes s S T fits =
+    let q = p * blockBytes g in
+    let w = blockBytes g in (
+      rw (S .at, S .bytes) (within (dataAt g b) (cutFrom g o p) (cutTo g o n p - cutFrom g o p) w bytes (cut-inside o n q w) fits),
+      rw (S .skip, S .bytes, cut-after o n q w (T .begins) (T .ends)) (omega arith),
+    )
 
 length-cut : (a k : ℕ) (xs : List ℕ) → a + k ≤ length xs → length (take k (drop a xs)) ≡ k
 length-cut a k xs h = length-take-le k (drop a xs) (rw length-drop (omega arith))
@@ -38,92 +50,65 @@ lent-length a b k xs ys h l =
     rw (e, f) (length-cut a k xs h ∙ sym (length-cut b k ys l))
 
 -- ---- a load
-module _ (g : Geometry) (at : ℕ → ℕ) (o n : ℕ) (image : List ℕ) where
+-- the buffer with the bytes asked that stand before position p
+abbrev pub readTo : (g : Geometry) (at : ℕ → ℕ) (o n : ℕ) → List ℕ → ℕ → List ℕ → List ℕ
+readTo g at o n image p buffer = splice 0 (loaded g at o (min (p * blockBytes g - o) n) image) buffer
+
+module _ (g : Geometry) (A : Allowed g) (at : ℕ → ℕ) (o : ℕ) (image buffer : List ℕ) where
+  abbrev n : ℕ
+  n = length buffer
+
   abbrev w : ℕ
   w = blockBytes g
 
-  -- the bytes that stand before position p are in the buffer
-  abbrev pub Got : ℕ → List ℕ → Type 0
-  Got p buffer = (k : ℕ) → k < n → o + k < p * w → getD buffer k 0 ≡ getD image (addressOf g at (o + k)) 0
+  pub read-none : buffer ≡ readTo g at o (length buffer) image (firstTouched g o) buffer
+  read-none =
+      let e : min (firstTouched g o * w - o) n ≡ 0 = omega (arith, div-mul-le-self o w) in
+      rw (e, loaded-none g at o image) (sym (splice-nil 0 buffer (omega arith)))
 
-  pub got-none : (buffer : List ℕ) → Got (firstTouched g o) buffer
-  got-none buffer k h l = absurd (omega (arith, div-mul-le-self o w))
+  pub read-length : (p : ℕ) → length (readTo g at o (length buffer) image p buffer) ≡ length buffer
+  read-length p = length-splice 0 (loaded g at o (min (p * w - o) n) image) buffer (rw length-loaded (omega arith))
 
-  module _ (p : ℕ) (T : Touches g o n p) (fits : dataAt g (at p) + w ≤ length image) (buffer : List ℕ) (size : length buffer ≡ n) where
-    abbrev part : List ℕ
-    part = take (cutTo g o n p - cutFrom g o p) (drop (dataAt g (at p) + cutFrom g o p) image)
+  pub read-more : (p : ℕ) → Touches g o (length buffer) p → dataAt g (at p) + blockBytes g ≤ length image
+      → splice (p * blockBytes g - o) (take (cutTo g o (length buffer) p - cutFrom g o p) (drop (dataAt g (at p) + cutFrom g o p) image)) (readTo g at o (length buffer) image p buffer)
+      ≡ readTo g at o (length buffer) image (p + 1) buffer
+  read-more p T fits =
+      let q = p * w in
+      let a = cutFrom g o p in
+      let k = cutTo g o n p - cutFrom g o p in
+      let e : min (q - o) n ≡ q - o = cut-before o n q w (T .begins) (T .ends) in
+      let f : min ((p + 1) * w - o) n ≡ (q - o) + k = rw (add-one, suc-mul) (sym (cut-after o n q w (T .begins) (T .ends))) in
+      let part = loaded-within g A at p a k image (cut-inside o n q w) (within (dataAt g (at p)) a k w (length image) (cut-inside o n q w) fits) in
+      rw (← part, cut-start o n q w (T .begins) (T .ends), f, loaded-add g at o (q - o) k image, e)
+      (splice-then 0 (q - o) (loaded g at o (q - o) image) (loaded g at (o + (q - o)) k image) buffer (rw (length-loaded, zero-add)) (omega arith))
 
-    length-part : length part ≡ cutTo g o n p - cutFrom g o p
-    length-part =
-        length-cut (dataAt g (at p) + cutFrom g o p) (cutTo g o n p - cutFrom g o p) image
-        (within (dataAt g (at p)) (cutFrom g o p) (cutTo g o n p - cutFrom g o p) w (length image) (cut-inside o n (p * w) w) fits)
-
-    room : p * w - o + length part ≤ length buffer
-    room = rw (length-part, size) (cut-room o n (p * w) w (T .begins))
-
-    pub got-length : length (splice (p * w - o) part buffer) ≡ length buffer
-    got-length = length-splice (p * w - o) part buffer room
-
-    here : (k j : ℕ) → k < n → j < w → o + k ≡ p * w + j → getD (splice (p * w - o) part buffer) k 0 ≡ getD image (addressOf g at (o + k)) 0
-    here k j h l e =
-        let a = cutFrom g o p in
-        let c = cut-in o n (p * w) w j l (omega arith) (omega arith) in
-        let i : p * w - o + (j - a) ≡ k = omega (arith, cut-index o n (p * w) w j l (omega arith)) in
-        let d : dataAt g (at p) + a + (j - a) ≡ dataAt g (at p) + j = omega arith in
-        rw (e, address-at g at p j l)
-        ((rw i at (splice-in (p * w - o) part buffer room (j - a) (rw length-part (c .1))))
-        ∙ getD-take (cutTo g o n p - a) (drop (dataAt g (at p) + a) image) (j - a) 0 (c .1)
-        ∙ getD-drop (dataAt g (at p) + a) image (j - a) 0
-        ∙ ap (λ (z : ℕ). getD image z 0) d)
-
-    pub got-more : Got p buffer → Got (p + 1) (splice (p * w - o) part buffer)
-    got-more G k h l = go (decLt (o + k) (p * w))
-      where
-        go : Dec (o + k < p * w) → getD (splice (p * w - o) part buffer) k 0 ≡ getD image (addressOf g at (o + k)) 0
-        go (yes b) = splice-before (p * w - o) part buffer room k (omega arith) ∙ G k h b
-        go (no b) = here k (o + k - p * w) h (omega (arith, next-block p w)) (omega arith)
-
-  pub got-all : 0 < w → (buffer : List ℕ) → length buffer ≡ n → Got (endTouched g o n) buffer → buffer ≡ loaded g at o n image
-  unfolding loaded
-  got-all pos buffer size G =
-      ext-getD 0 buffer _ (size ∙ sym (length-listFrom o n _))
-      (λ k h.
-      let l : k < n = omega arith in
-      let some : n ≡ 0 → ⊥ = λ e. omega arith in
-      G k l (omega (arith, ends-all g pos o n some)) ∙ sym (getD-listFrom n o (λ i. getD image (addressOf g at i) 0) k l))
+  pub read-all : readTo g at o (length buffer) image (endTouched g o (length buffer)) buffer ≡ loaded g at o (length buffer) image
+  read-all =
+      let e : min (endTouched g o n * w - o) n ≡ n = go (ℕ-discrete n 0) in
+      rw e (splice-all (loaded g at o n image) buffer (length-loaded g at o n image))
+    where
+      go : Dec (length buffer ≡ 0) → min (endTouched g o (length buffer) * blockBytes g - o) (length buffer) ≡ length buffer
+      go (yes z) = omega arith
+      go (no ne) = omega (arith, touched-ends g A o (length buffer) ne 0)
 
 -- ---- a store
--- steps that do nothing
-pub steps-idle : (f : ℕ → List ℕ → List ℕ) (m n : ℕ) (x : List ℕ) → ((p : ℕ) → m ≤ p → p < m + n → (y : List ℕ) → f p y ≡ y)
-    → steps (m + n) f x ≡ steps m f x
-unfolding steps
-steps-idle f m zero x idle = rw add-zero
-steps-idle f m (suc n) x idle =
-    let e : m + suc n ≡ suc (m + n) = omega arith in
-    rw e (idle (m + n) (omega arith) (omega arith) _ ∙ steps-idle f m n x (λ p lo hi. idle p lo (omega arith)))
+module _ (g : Geometry) (at : ℕ → ℕ) (o : ℕ) (ys image : List ℕ) where
+  -- the image with the bytes before position p written
+  abbrev pub writtenTo : ℕ → List ℕ
+  writtenTo p = steps (p - firstTouched g o) (λ k. stretch g at o ys (firstTouched g o + k)) image
 
-splice-none : (a : ℕ) (xs : List ℕ) → splice a [] xs ≡ xs
-unfolding splice
-splice-none a xs = rw add-zero (take-append-drop a xs)
+  pub written-none : image ≡ writtenTo (firstTouched g o)
+  written-none = let e : firstTouched g o - firstTouched g o ≡ 0 = omega arith in rw e (sym (steps-none _ image))
 
-module _ (g : Geometry) (pos : 0 < blockBytes g) (at : ℕ → ℕ) (o : ℕ) (ys : List ℕ) where
-  stretch-idle : (p : ℕ) → cutTo g o (length ys) p ≤ cutFrom g o p → (x : List ℕ) → stretch g at o ys p x ≡ x
-  stretch-idle p h x = let e : cutTo g o (length ys) p - cutFrom g o p ≡ 0 = omega arith in rw e (splice-none _ x)
+  pub written-more : (p : ℕ) → firstTouched g o ≤ p → stretch g at o ys p (writtenTo p) ≡ writtenTo (p + 1)
+  written-more p lo =
+      let f = firstTouched g o in
+      let e : p + 1 - f ≡ p - f + 1 = omega arith in
+      let d : f + (p - f) ≡ p = omega arith in
+      rw (e, steps-more (p - f) (λ k. stretch g at o ys (f + k)) image, d)
 
-  -- nothing is written before the first touched position
-  pub stored-none : (x : List ℕ) → stored g at (firstTouched g o) o ys x ≡ x
-  unfolding stored steps
-  stored-none x =
-      rw zero-add at (steps-idle (stretch g at o ys) 0 (firstTouched g o) x (λ p lo hi. stretch-idle p (untouched-before g pos o (length ys) p (omega arith))))
-
-  pub stored-more : (p : ℕ) (x : List ℕ) → stored g at (p + 1) o ys x ≡ stretch g at o ys p (stored g at p o ys x)
-  unfolding stored steps
-  stored-more p x = rw add-one
-
-  -- nor from the end of the touched positions on
-  pub stored-past : (k : ℕ) (x : List ℕ) → endTouched g o (length ys) ≤ k → stored g at k o ys x ≡ stored g at (endTouched g o (length ys)) o ys x
-  unfolding stored
-  stored-past k x h =
-      let e = endTouched g o (length ys) in
-      let d : e + (k - e) ≡ k = omega arith in
-      rw d at (steps-idle (stretch g at o ys) e (k - e) x (λ p lo hi. stretch-idle p (untouched-after g pos o (length ys) p lo)))
+  -- all of them: no other position of the book is written
+  pub written-all : Allowed g → (k : ℕ) → endTouched g o (length ys) ≤ k → writtenTo (endTouched g o (length ys)) ≡ stored g at k o ys image
+  written-all A k h =
+      let e : endTouched g o (length ys) - firstTouched g o ≡ touched g o (length ys) = omega arith in
+      rw e (sym (stored-touched g at o ys A k image h))

@@ -3,7 +3,7 @@ ghost use mathlib.Core.Path.{_≡_};
 ghost use Prim.Native.Nat.{ℕ, _+_, _*_, _/_, _^_, _<_, _≤_, min};
 ghost use lib.ListN.{length};
 ghost use Rattle.paper.specs.Geometry.{Allowed, blockBytes, indexBytes};
-ghost use Rattle.paper.specs.Image.{front};
+ghost use Rattle.paper.specs.Image.{front, needOf};
 ghost use Rattle.paper.specs.Index.{startIn, slotIn, blockIn};
 ghost use Rattle.paper.specs.Calls.{loaded, stored};
 ghost use Rattle.paper.specs.Refusals.{rightAt, touchedRight};
@@ -181,7 +181,7 @@ pub fn copy_out(
 // The bytes into the book from the offset on.
 pub fn copy_in(g: Geometry, image: &mut [u8], index: &[u8], r: Region, offset: Offset, bytes: &[u8])
     requires { ⌜ Reads g (now image) (now index) (r .0) (offset .0) (length (now bytes)) ⌝ }
-    ensures { λ _. ⌜ now (image .exit) ≡ stored g (blockIn g (now (index .entry)) (r .0)) (endTouched g (offset .0) (length (now (bytes .entry)))) (offset .0) (now (bytes .entry)) (now (image .entry)) ⌝ }
+    ensures { λ _. ⌜ now (image .exit) ≡ stored g (blockIn g (now (index .entry)) (r .0)) (needOf g (front g (now (image .entry))) (r .0)) (offset .0) (now (bytes .entry)) (now (image .entry)) ⌝ }
 {
     let n = bytes.len();
     let start = start_in(g, index, r);

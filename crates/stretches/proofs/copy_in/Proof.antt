@@ -4,19 +4,19 @@ use mathlib.Core.Path.{_≡_, refl, _∙_, ap, sym}
 use mathlib.Core.List.{List}
 use lib.ListN.{length}
 use Rattle.paper.specs.Geometry.{blockBytes, dataAt}
-use Rattle.paper.specs.Calls.{stretch, stored}
+use Rattle.paper.specs.Index.{blockIn}
+use Rattle.paper.specs.Calls.{stretch}
 use Rattle.paper.proofs.Counting.{block-positive}
 use Rattle.stretches.specs.Stretch.{blockFrom, firstTouched, endTouched, cutFrom, cutTo}
-use Rattle.stretches.proofs.Touched.{cut-inside, cut-room}
-use Rattle.stretches.proofs.Right.{Step, reads-region, reads-bound, reads-step}
-use Rattle.stretches.proofs.Walks.{within, stored-none, stored-more}
+use Rattle.stretches.proofs.Right.{Step, reads-region, reads-bound, reads-need, reads-step}
+use Rattle.stretches.proofs.Walks.{stretch-fits, writtenTo, written-none, written-more, written-all}
 use native.Mathlib.Omega.{arith}
 use borrow.Author.Needs.{needs}
 use Rattle.stretches.proofs.copy_in.Statement.{statement}
 use Rattle.stretches.proofs.copy_in.Tie as tie
 
 abbrev Inv-loop : tie.InvT-loop
-Inv-loop g image₀ index offset bytes n start first end p₀ image p = (first ≤ p) × (p ≤ end) × (length image ≡ length image₀) × (image ≡ stored g (blockFrom g index start) p (offset .0) bytes image₀)
+Inv-loop g image₀ index offset bytes n start first end p₀ image p = (first ≤ p) × (p ≤ end) × (length image ≡ length image₀) × (image ≡ writtenTo g (blockFrom g index start) (offset .0) bytes image₀ p)
 
 abbrev μ-loop : tie.MeasureT-loop
 μ-loop g image₀ index offset bytes n start first end p₀ image p = end - p
@@ -45,7 +45,7 @@ loop-holds c =
       omega arith,
       omega arith,
       refl,
-      rw (c .before .first-touched .ensures) (sym (stored-none (a .g) (block-positive (a .g) (R .entered .geometry)) at (a .offset .0) (a .bytes .now) (a .image .now))),
+      rw (c .before .first-touched .ensures) (written-none (a .g) at (a .offset .0) (a .bytes .now) (a .image .now)),
     )
 
 -- the position of a turn
@@ -65,15 +65,10 @@ stretch-at-requires c κs =
 copy-part-requires : tie.Need-copy-part-requires Inv-loop μ-loop
 copy-part-requires c κs =
     let a = c .before .before .before .before .before .before .before .before .before .before .args in
-    let S = c .before .stretch-at .ensures in
-    let s = step (c .before .before) in
     let x = c .before .before .before .loop in
-    let w = blockBytes (a .g) in
-    let n = length (a .bytes .now) in
-    let o = a .offset .0 in (
-      rw (S .skip, S .bytes) (cut-room o n (x .p * w) w (s .touches .begins)),
-      rw (S .at, S .bytes) (within _ (cutFrom (a .g) o (x .p)) (cutTo (a .g) o n (x .p) - cutFrom (a .g) o (x .p)) w _ (cut-inside o n (x .p * w) w) (rw (x .inv .2) (s .fits))),
-    )
+    let s = step (c .before .before) in
+    let f = stretch-fits (a .g) _ (a .offset .0) (length (a .bytes .now)) (x .p) (length (x .image)) _ (c .before .stretch-at .ensures) (s .touches) (rw (x .inv .2) (s .fits)) in
+    (f .1, f .0)
 
 add-p : tie.Need-add-p Inv-loop μ-loop
 add-p c = search needs
@@ -96,7 +91,7 @@ loop-again c =
       P .kept .1 .1 .0 ∙ x .inv .2,
       (rw (S .at, S .skip, S .bytes) at (P .ensures))
           ∙ ap (stretch (a .g) at o ys (x .p)) (x .inv .3)
-          ∙ sym (stored-more (a .g) (block-positive (a .g) (R .entered .geometry)) at o ys (x .p) (a .image .now)),
+          ∙ written-more (a .g) at o ys (a .image .now) (x .p) (omega arith),
     )
 
 same-length : tie.Need-same-length Inv-loop μ-loop
@@ -105,9 +100,12 @@ same-length c = search needs
 returns : tie.Need-returns Inv-loop μ-loop
 returns c =
     let a = c .before .before .before .before .before .before .before .before .args in
+    let R = c .before .before .before .before .before .before .before .before .pre in
     let x = c .before .loop in
-    let e : x .p ≡ endTouched (a .g) (a .offset .0) (length (a .bytes .now)) = omega arith in
-    rw (c .before .before .before .before .start-in .ensures, e) at (x .inv .3)
+    let n = length (a .bytes .now) in
+    let e : x .p ≡ endTouched (a .g) (a .offset .0) n = omega arith in
+    (rw (c .before .before .before .before .start-in .ensures, e) at (x .inv .3))
+    ∙ written-all (a .g) (blockIn (a .g) (a .index .now) (a .r .0)) (a .offset .0) (a .bytes .now) (a .image .now) (R .entered .geometry) _ (reads-need (a .g) (a .image .now) (a .index .now) (a .r .0) (a .offset .0) n R)
 
 pub copy-in-spec : {M : Type 1} → statement M
 copy-in-spec =

@@ -4,19 +4,17 @@ use mathlib.Core.Path.{_≡_, refl, _∙_, ap, sym}
 use mathlib.Core.List.{List}
 use lib.ListN.{length}
 use Rattle.laws.proofs.Lists.{copied-splice}
-use Rattle.paper.specs.Geometry.{blockBytes, dataAt}
-use Rattle.paper.proofs.Counting.{block-positive}
-use Rattle.stretches.specs.Stretch.{blockFrom, firstTouched, endTouched, cutFrom, cutTo}
-use Rattle.stretches.proofs.Touched.{cut-inside, cut-room}
+use Rattle.paper.specs.Index.{blockIn}
+use Rattle.stretches.specs.Stretch.{blockFrom, endTouched}
 use Rattle.stretches.proofs.Right.{Step, reads-region, reads-bound, reads-step}
-use Rattle.stretches.proofs.Walks.{within, lent-length, Got, got-none, got-length, got-more, got-all}
+use Rattle.stretches.proofs.Walks.{stretch-fits, lent-length, readTo, read-none, read-length, read-more, read-all}
 use native.Mathlib.Omega.{arith}
 use borrow.Author.Needs.{needs}
 use Rattle.stretches.proofs.copy_out.Statement.{statement}
 use Rattle.stretches.proofs.copy_out.Tie as tie
 
 abbrev Inv-loop : tie.InvT-loop
-Inv-loop g image index offset buffer₀ n start first end p₀ buffer p = (first ≤ p) × (p ≤ end) × (length buffer ≡ length buffer₀) × Got g (blockFrom g index start) (offset .0) (length buffer₀) image p buffer
+Inv-loop g image index offset buffer₀ n start first end p₀ buffer p = (first ≤ p) × (p ≤ end) × (length buffer ≡ length buffer₀) × (buffer ≡ readTo g (blockFrom g index start) (offset .0) (length buffer₀) image p buffer₀)
 
 abbrev μ-loop : tie.MeasureT-loop
 μ-loop g image index offset buffer₀ n start first end p₀ buffer p = end - p
@@ -44,7 +42,7 @@ loop-holds c =
       omega arith,
       omega arith,
       refl,
-      rw (c .before .first-touched .ensures) (got-none (a .g) at (a .offset .0) (length (a .buffer .now)) (a .image .now) (a .buffer .now)),
+      rw (c .before .first-touched .ensures) (read-none (a .g) (c .before .before .before .before .before .before .pre .entered .geometry) at (a .offset .0) (a .image .now) (a .buffer .now)),
     )
 
 -- the position of a turn
@@ -60,15 +58,10 @@ room : (c : tie.After-stretch-at Inv-loop μ-loop)
     × (c .stretch-at .result .skip + c .stretch-at .result .bytes ≤ length (c .before .before .loop .buffer))
 room c =
     let a = c .before .before .before .before .before .before .before .before .before .args in
-    let S = c .stretch-at .ensures in
-    let s = step (c .before) in
     let x = c .before .before .loop in
-    let w = blockBytes (a .g) in
-    let n = length (a .buffer .now) in
-    let o = a .offset .0 in (
-      rw (S .at, S .bytes) (within _ (cutFrom (a .g) o (x .p)) (cutTo (a .g) o n (x .p) - cutFrom (a .g) o (x .p)) w _ (cut-inside o n (x .p * w) w) (s .fits)),
-      rw (S .skip, S .bytes, x .inv .2) (cut-room o n (x .p * w) w (s .touches .begins)),
-    )
+    let s = step (c .before) in
+    rw (x .inv .2)
+    (stretch-fits (a .g) _ (a .offset .0) (length (a .buffer .now)) (x .p) (length (a .image .now)) _ (c .stretch-at .ensures) (s .touches) (s .fits))
 
 stretch-at-requires : tie.Need-stretch-at-requires Inv-loop μ-loop
 stretch-at-requires c κs =
@@ -116,20 +109,19 @@ loop-less c = search needs
 loop-again : tie.Need-loop-again Inv-loop μ-loop
 loop-again c =
     let a = c .before .before .before .before .before .before .before .before .before .before .before .before .before .before .args in
+    let A = c .before .before .before .before .before .before .before .before .before .before .before .before .before .before .pre .entered .geometry in
     let Q = c .before .before .before .before .before .stretch-at in
     let S = Q .ensures in
     let s = step (c .before .before .before .before .before .before) in
-    let h = room (c .before .before .before .before .before) in
     let x = c .before .before .before .before .before .before .before .loop in
     let at = blockFrom (a .g) (a .index .now) (c .before .before .before .before .before .before .before .before .before .before .start-in .result) in
-    let o = a .offset .0 in
-    let n = length (a .buffer .now) in
     let P = c .before .before .copy in
-    let e = copied-splice (Q .result .at) (Q .result .skip) (Q .result .bytes) (a .image .now) (x .buffer) (P .last .1 .0) (h .0) (P .ensures) in (
+    let e = copied-splice (Q .result .at) (Q .result .skip) (Q .result .bytes) (a .image .now) (x .buffer) (P .last .1 .0) (room (c .before .before .before .before .before) .0) (P .ensures) in
+    let d = read-more (a .g) A at (a .offset .0) (a .image .now) (a .buffer .now) (x .p) (s .touches) (s .fits) in (
       omega arith,
       omega arith,
-      rw (e, S .at, S .skip, S .bytes) (got-length (a .g) at o n (a .image .now) (x .p) (s .touches) (s .fits) (x .buffer) (x .inv .2) ∙ x .inv .2),
-      rw (e, S .at, S .skip, S .bytes) (got-more (a .g) at o n (a .image .now) (x .p) (s .touches) (s .fits) (x .buffer) (x .inv .2) (x .inv .3)),
+      rw (e, S .at, S .skip, S .bytes, x .inv .3, d) (read-length (a .g) A at (a .offset .0) (a .image .now) (a .buffer .now) (x .p + 1)),
+      rw (e, S .at, S .skip, S .bytes, x .inv .3) d,
     )
 
 same-length : tie.Need-same-length Inv-loop μ-loop
@@ -138,11 +130,10 @@ same-length c = search needs
 returns : tie.Need-returns Inv-loop μ-loop
 returns c =
     let a = c .before .before .before .before .before .before .before .before .args in
-    let R = c .before .before .before .before .before .before .before .before .pre in
     let x = c .before .loop in
-    let at = blockFrom (a .g) (a .index .now) (c .before .before .before .before .start-in .result) in
     let e : x .p ≡ endTouched (a .g) (a .offset .0) (length (a .buffer .now)) = omega arith in
-    rw (c .before .before .before .before .start-in .ensures) at (got-all (a .g) at (a .offset .0) (length (a .buffer .now)) (a .image .now) (block-positive (a .g) (R .entered .geometry)) (x .buffer) (x .inv .2) (rw e at (x .inv .3)))
+    (rw (c .before .before .before .before .start-in .ensures, e) at (x .inv .3))
+    ∙ read-all (a .g) (c .before .before .before .before .before .before .before .before .pre .entered .geometry) (blockIn (a .g) (a .index .now) (a .r .0)) (a .offset .0) (a .image .now) (a .buffer .now)
 
 pub copy-out-spec : {M : Type 1} → statement M
 copy-out-spec =

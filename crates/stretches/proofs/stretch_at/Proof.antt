@@ -55,7 +55,8 @@ returns c =
     let W = c .before .before .before .before .block-bytes in
     let e = ap (λ (w : ℕ). a .p * w) (W .ensures) in
     let d = c .before .data-at .ensures ∙ ap (dataAt (a .g)) (c .before .before .slot-in .ensures) in
-    let f = cut-from (a .offset .0) (a .n) (a .p * blockBytes (a .g)) (blockBytes (a .g)) (c .before .before .before .before .before .before .pre .1 .0 .ends) in
+    let T = c .before .before .before .before .before .before .pre .1 .0 in
+    let f = cut-from (a .offset .0) (a .n) (a .p * blockBytes (a .g)) (blockBytes (a .g)) (T .begins) (T .ends) in
     record {
       at = rw f (omega arith);
       skip = omega arith;
@@ -68,7 +69,8 @@ returns-2 c =
     let W = c .before .before .before .before .block-bytes in
     let e = ap (λ (w : ℕ). a .p * w) (W .ensures) in
     let d = c .before .data-at .ensures ∙ ap (dataAt (a .g)) (c .before .before .slot-in .ensures) in
-    let f = cut-from (a .offset .0) (a .n) (a .p * blockBytes (a .g)) (blockBytes (a .g)) (c .before .before .before .before .before .before .pre .1 .0 .ends) in
+    let T = c .before .before .before .before .before .before .pre .1 .0 in
+    let f = cut-from (a .offset .0) (a .n) (a .p * blockBytes (a .g)) (blockBytes (a .g)) (T .begins) (T .ends) in
     let z : a .offset .0 - a .p * W .result ≡ 0 = omega arith in
     record {
       at = rw f (omega arith);

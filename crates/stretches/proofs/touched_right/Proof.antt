@@ -7,7 +7,6 @@ use Rattle.laws.specs.Folds.{allFrom}
 use Rattle.laws.proofs.Folds.{from-none, from-more, not-all-from}
 use Rattle.paper.specs.Image.{front}
 use Rattle.paper.specs.Refusals.{rightAt}
-use Rattle.paper.proofs.Counting.{block-positive}
 use Rattle.stretches.specs.Stretch.{firstTouched, endTouched}
 use Rattle.stretches.proofs.Touched.{end-bound}
 use Rattle.stretches.proofs.Right.{touched-walk}
@@ -40,7 +39,7 @@ right-at-requires : tie.Need-right-at-requires Inv-loop μ-loop
 right-at-requires c κs =
     let a = c .before .before .before .before .before .before .before .args in
     let p = c .before .before .before .before .before .before .before .pre in
-    let b = end-bound (a .g) (block-positive (a .g) (p .0 .geometry)) (a .offset .0) (a .n) in
+    let b = end-bound (a .g) (p .0 .geometry) (a .offset .0) (a .n) in
     (p .0, (c .before .before .before .before .start-in .ensures, omega arith))
 
 returns : tie.Need-returns Inv-loop μ-loop
