@@ -18,11 +18,12 @@ use Rattle.paper.specs.Image.{holds, pagesIn, stamped, taken, counter, owner, p
 use Rattle.paper.specs.Calls.{grantedReclaimed, grantedNew, granted}
 use Rattle.paper.proofs.Counting.{need-enough, need-whole}
 use Rattle.rules.specs.Facts.{Rules, Formed, callable}
+use Rattle.rules.proofs.Cells.{taken-setTaken, counter-setTaken}
 use Rattle.rules.proofs.Facts.{open-below, is-open, need-open, open-same, need-same}
 use Rattle.rules.proofs.Counting.{need-taken, block-below, block-owner, block-is}
 use Rattle.rules.proofs.Checks.{callable-apart}
 use Rattle.keeping.proofs.General.{sum-bump-two}
-use Rattle.keeping.proofs.Writes.{TakenSet, EntrySet, SizeSet, set-taken, set-entry, set-pages, pages-here}
+use Rattle.keeping.proofs.Writes.{NumberSet, EntrySet, SizeSet, set-taken, set-entry, set-pages, pages-here}
 use Rattle.keeping.proofs.Reassigned as reassigned
 use Rattle.keeping.proofs.Reassigned.{Entry, moved, kept, stays}
 
@@ -205,7 +206,7 @@ module _ (g : Geometry) (A : Allowed g) (cap : ℕ) (cap-most : cap ≤ g .block
     abbrev t2 : List ℕ
     t2 = setEntry g N r (needOf g t r) t1
 
-    T : TakenSet g t (N + 1) t1
+    T : NumberSet g t t1
     T = set-taken g t (F .full) (N + 1)
 
     E : EntrySet g t1 N r (needOf g t r) t2
@@ -215,7 +216,7 @@ module _ (g : Geometry) (A : Allowed g) (cap : ℕ) (cap-most : cap ≤ g .block
     P = set-pages g t2 (E .full) r ((needOf g t r + 1) * g .pages) r-below
 
     count-new : taken g (setPages g r ((needOf g t r + 1) * g .pages) t2) ≡ N + 1
-    count-new = P .taken-is ∙ E .taken-is ∙ T .written (omega (arith, A .blocks-most))
+    count-new = P .taken-is ∙ E .taken-is ∙ taken-setTaken g t (omega (arith, F .full)) (N + 1) (omega (arith, A .blocks-most))
 
     size-1 : sizeOf g (setPages g r ((needOf g t r + 1) * g .pages) t2) reclaimed ≡ sizeOf g t reclaimed
     size-1 = P .size-else reclaimed (λ z. not-1 (sym z)) ∙ E .size-is reclaimed ∙ T .size-is reclaimed
@@ -225,7 +226,7 @@ module _ (g : Geometry) (A : Allowed g) (cap : ℕ) (cap-most : cap ≤ g .block
     new-given = record {
       full = P .full;
       stamp = P .stamp ∙ E .stamp ∙ T .stamp;
-      counter-is = P .counter-is ∙ E .counter-is ∙ T .counter-is;
+      counter-is = P .counter-is ∙ E .counter-is ∙ counter-setTaken g t (omega (arith, F .full)) (N + 1);
       owner-here = P .owner-is N (omega arith) ∙ E .owner-here region-small;
       place-here = P .place-is N (omega arith) ∙ E .place-here place-small;
       owner-else = λ a h e. P .owner-is a h ∙ E .owner-else a e ∙ T .owner-is a;

@@ -6,7 +6,7 @@ use mathlib.Core.Path.{_≡_, refl, sym, _∙_, ap}
 use mathlib.Core.List.{List}
 use native.Mathlib.Omega.{arith}
 use native.Mathlib.Nat.{not-suc-le-zero, add-zero, suc-mul, mul-le-mul-right, div-mul-le-self}
-use native.Mathlib.Decide.{ℕ-discrete, decLt, decLe}
+use native.Mathlib.Decide.{ℕ-discrete, decLt}
 use borrow.Author.Tests.{lt-ltb, le-ltb, le-leb, lt-leb}
 use lib.Dec.{leb, ltb}
 use lib.ListN.{take, drop, getD, length, length-take, length-drop, take-append-drop}
@@ -22,6 +22,7 @@ use Rattle.paper.specs.Refusals.{touched}
 use Rattle.paper.proofs.Counting.{block-after, block-order}
 use Rattle.rules.proofs.Touched.{touched-ends}
 use Rattle.keeping.proofs.General.{steps-ext, steps-same, steps-add}
+use Rattle.keeping.proofs.Cut.{cut-length, cut-inside, cut-before, cut-after, cut-in, cut-index}
 
 -- byte i after ys was laid at o over old
 abbrev pub over : ℕ → List ℕ → ℕ → ℕ → ℕ
@@ -48,42 +49,6 @@ splice-over o ys xs fits i = go (decLt i o) (decLt i (o + length ys))
         let e : o + (i - o) ≡ i = omega arith in
         (rw e at (splice-in o ys xs fits (i - o) (omega arith))) ∙ sym (over-in o ys i (getD xs i 0) (omega arith) k)
 
--- ---- the numbers of a stretch: the block's bytes are q to q + b of the book, the laid ones o to o + n
-cut-early : (z b : ℕ) → min (min z b - min 0 b) z ≡ min z b - min 0 b
-cut-early z b = omega arith
-
-cut-late : (y n b : ℕ) → min (min (y + n) b - min y b) (n - 0) ≡ min (y + n) b - min y b
-cut-late y n b = omega arith
-
-cut-length : (o n q b : ℕ) → min (min (o + n - q) b - min (o - q) b) (n - (q - o)) ≡ min (o + n - q) b - min (o - q) b
-cut-length o n q b = go (decLe o q)
-  where
-    go : Dec (o ≤ q) → min (min (o + n - q) b - min (o - q) b) (n - (q - o)) ≡ min (o + n - q) b - min (o - q) b
-    go (yes h) =
-        let e1 : o - q ≡ 0 = omega arith in
-        let e2 : o + n - q ≡ n - (q - o) = omega arith in
-        rw (e1, e2) (cut-early (n - (q - o)) b)
-    go (no h) =
-        let e1 : q - o ≡ 0 = omega arith in
-        let e2 : o + n - q ≡ (o - q) + n = omega arith in
-        rw (e1, e2) (cut-late (o - q) n b)
-
-cut-inside : (x y b : ℕ) → min y b + (min x b - min y b) ≤ b
-cut-inside x y b = omega arith
-
-cut-before : (o q j b : ℕ) → q + j < o → j < b → j < min (o - q) b
-cut-before o q j b h l = omega arith
-
-cut-after : (o n q j b : ℕ) → o + n ≤ q + j → j < b → min (o - q) b + (min (o + n - q) b - min (o - q) b) ≤ j
-cut-after o n q j b h l = omega arith
-
-cut-in : (o n q j b : ℕ) → o ≤ q + j → q + j < o + n → j < b
-    → (min (o - q) b ≤ j) × (j - min (o - q) b < min (o + n - q) b - min (o - q) b)
-cut-in o n q j b lo hi l = omega arith
-
-cut-index : (o q j b : ℕ) → o ≤ q + j → j < b → (q - o) + (j - min (o - q) b) ≡ q + j - o
-cut-index o q j b lo l = omega arith
-
 module _ (g : Geometry) (at : ℕ → ℕ) (o : ℕ) (ys : List ℕ) where
   abbrev bb : ℕ
   bb = blockBytes g
@@ -107,7 +72,7 @@ module _ (g : Geometry) (at : ℕ → ℕ) (o : ℕ) (ys : List ℕ) where
     length-zs = simp (length-take, length-drop) (cut-length o (length ys) (p * bb) bb)
 
     inside : dataAt g (at p) + a + length zs ≤ dataAt g (at p) + bb
-    inside = rw length-zs (omega (arith, cut-inside (o + length ys - p * bb) (o - p * bb) bb))
+    inside = rw length-zs (omega (arith, cut-inside o (length ys) (p * bb) bb))
 
     fit : dataAt g (at p) + a + length zs ≤ length x
     fit = omega (arith, inside)
@@ -136,16 +101,16 @@ module _ (g : Geometry) (at : ℕ → ℕ) (o : ℕ) (ys : List ℕ) where
 
         go : Dec (p * bb + j < o) → Dec (p * bb + j < o + length ys) → Laid p j x (stretch g at o ys p x)
         go (yes l) _ =
-            splice-before (dataAt g (at p) + a) zs x fit (dataAt g (at p) + j) (omega (arith, cut-before o (p * bb) j bb l h))
+            splice-before (dataAt g (at p) + a) zs x fit (dataAt g (at p) + j) (omega (arith, cut-before o (length ys) (p * bb) bb j h l))
             ∙ sym (over-before o ys (p * bb + j) old l)
         go (no l) (no k) =
-            splice-after (dataAt g (at p) + a) zs x fit (dataAt g (at p) + j) (rw length-zs (omega (arith, cut-after o (length ys) (p * bb) j bb (omega arith) h)))
+            splice-after (dataAt g (at p) + a) zs x fit (dataAt g (at p) + j) (rw length-zs (omega (arith, cut-after o (length ys) (p * bb) bb j h (omega arith))))
             ∙ sym (over-after o ys (p * bb + j) old (omega arith))
         go (no l) (yes k) =
-            let c = cut-in o (length ys) (p * bb) j bb (omega arith) k h in
+            let c = cut-in o (length ys) (p * bb) bb j h (omega arith) k in
             let w : dataAt g (at p) + a + (j - a) ≡ dataAt g (at p) + j = omega arith in
             (rw w at (splice-in (dataAt g (at p) + a) zs x fit (j - a) (rw length-zs (c .1))))
-            ∙ rw (getD-take (e - a) (drop (p * bb - o) ys) (j - a) 0 (c .1), getD-drop (p * bb - o) ys (j - a) 0, cut-index o (p * bb) j bb (omega arith) h)
+            ∙ rw (getD-take (e - a) (drop (p * bb - o) ys) (j - a) 0 (c .1), getD-drop (p * bb - o) ys (j - a) 0, cut-index o (length ys) (p * bb) bb j h (omega arith))
             (sym (over-in o ys (p * bb + j) old (omega arith) k))
 
   -- ---- all positions
