@@ -3,10 +3,10 @@ use Prim.Native.Nat.{ℕ, _+_, _*_, _%_, _≤_, _<_}
 use mathlib.Core.Bool.{Bool, true, false, _||_}
 use mathlib.Core.Path.{_≡_}
 use mathlib.Core.List.{List}
-use Rattle.laws.specs.Folds.{sumBelow}
-use Rattle.paper.specs.declared.Geometry.{Geometry}
 use lib.Dec.{eqb, leb}
 use lib.ListN.{length}
+use Rattle.laws.specs.Folds.{sumBelow}
+use Rattle.paper.specs.declared.Geometry.{Geometry}
 use Rattle.paper.specs.Geometry.{fixedRegions, reclaimed, blockBytes, Allowed, noRegion, capacity, mostBookPages, frontBytes, indexBytes}
 use Rattle.paper.specs.Image.{front, stamped, taken, counter, owner, place, pagesOf, isOpen, needOf}
 use Rattle.paper.specs.Index.{indexOf}
