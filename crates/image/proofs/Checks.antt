@@ -14,10 +14,6 @@ use Rattle.paper.specs.Image.{Size, notOpen, holds, taken, owner, place, sizeOf
 use Rattle.paper.specs.WellFormed.{fits, ruleC, named}
 use Rattle.rules.proofs.Facts.{is-open, is-not-open, need-not-open}
 
--- a pass from a that went to i, past the end
-pub from-end : (a e i : ℕ) (p : ℕ → Bool) → e ≤ i → allFrom a i p ≡ true → allFrom a e p ≡ true
-from-end a e i p l h = from-all a e p (λ k lo hi. all-from a i p h k lo (omega arith))
-
 module _ (g : Geometry) (t : List ℕ) where
   -- a region that is not open has no pages, and fits
   pub fits-read : (r : ℕ) → r < g .entries → fits g t r ≡ leb (pagesOf g t r) (mostBookPages g)

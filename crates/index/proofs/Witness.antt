@@ -16,7 +16,7 @@ use Rattle.paper.specs.Image.{taken}
 use Rattle.paper.specs.Index.{indexOf}
 use Rattle.rules.specs.Facts.{Rules}
 use Rattle.rules.proofs.Facts.{Once}
-use Rattle.rules.proofs.Bytes.{Bytes}
+use Rattle.laws.proofs.Known.{Bytes}
 use Rattle.rules.proofs.Index.{witness-once, start-read, block-slot, spare-read, index-known}
 use Rattle.index.specs.Loose.{Loose}
 use Rattle.index.specs.Witnessed.{Indexed, startRight, blockRight, spareRight, Starts, witnessed, Witness}

@@ -12,7 +12,7 @@ use Rattle.paper.specs.declared.Geometry.{Geometry}
 use Rattle.paper.specs.Geometry.{reclaimed, Allowed, need, mostBookPages}
 use Rattle.paper.specs.Image.{holds, pagesIn, taken, sizeOf, pagesOf, isOpen, needOf, blockOf, setPages}
 use Rattle.paper.specs.Calls.{granted, newBlocks, grownFront}
-use Rattle.paper.proofs.Counting.{book-pages-bound, need-enough, need-below}
+use Rattle.paper.proofs.Counting.{book-pages-bound, need-enough, need-below, need-mono}
 use Rattle.rules.specs.Facts.{Rules, Formed, callable}
 use Rattle.rules.proofs.Facts.{open-below, is-open, need-open, open-same, need-same}
 use Rattle.rules.proofs.Counting.{need-taken}
@@ -20,10 +20,6 @@ use Rattle.rules.proofs.Checks.{callable-apart}
 use Rattle.keeping.proofs.Writes.{SizeSet, set-pages, pages-here}
 use Rattle.keeping.proofs.Reassigned.{sized-rules, sized-blocks}
 use Rattle.keeping.proofs.Grant.{Grown, granted-grown, grown-none, grown-then}
-
--- more pages need no fewer blocks
-pub need-mono : (g : Geometry) → 1 ≤ g .pages → (m n : ℕ) → m ≤ n → need g m ≤ need g n
-need-mono g pos m n h = need-below g pos m (need g n) (omega (arith, need-enough g pos n))
 
 -- u is t with n pages in region r, and the blocks for them
 pub record GrownTo (g : Geometry) (cap : ℕ) (t : List ℕ) (r n : ℕ) (u : List ℕ) : Type 0 where

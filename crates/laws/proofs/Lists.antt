@@ -11,7 +11,7 @@ use native.Mathlib.Decide.{decLt}
 use borrow.Author.Tests.{eqb-true, eqb-false, eq-eqb}
 use borrow.Rule.Slice.PartMut.{putMid}
 use lib.Dec.{eqb}
-use lib.ListN.{take, drop, getD, set, length, length-append, length-take, length-drop, length-set, List·getD-append, take-append-drop}
+use lib.ListN.{take, drop, getD, set, length, replicate, length-append, length-take, length-drop, length-set, List·getD-append, take-append-drop}
 use lib.Seq.{ext-getD, drop-length, getD-take, getD-drop, getD-append-add, length-take-le, take-at, drop-at, drop-drop, drop-append-add, set-split}
 use Rattle.laws.specs.Folds.{listFrom, joinBelow, sumBelow}
 use Rattle.laws.specs.Bytes.{splice, same}
@@ -41,6 +41,20 @@ unfolding listFrom
 listFrom-more zero i f = rw add-zero
 listFrom-more (suc n) i f = let e : suc i + n ≡ i + suc n = omega arith in ap (λ l. f i ∷ l) (listFrom-more n (suc i) f ∙ rw e)
 
+-- m of them, then n more
+pub listFrom-add : (m n i : ℕ) (f : ℕ → ℕ) → listFrom i (m + n) f ≡ listFrom i m f ++ listFrom (i + m) n f
+unfolding listFrom
+listFrom-add zero n i f = rw (zero-add, add-zero)
+listFrom-add (suc m) n i f =
+    let e : suc i + m ≡ i + suc m = omega arith in
+    rw suc-add (ap (λ l. f i ∷ l) (listFrom-add m n (suc i) f ∙ rw e))
+
+-- one element n times
+pub listFrom-same : (i n x : ℕ) → listFrom i n (λ k. x) ≡ replicate n x
+unfolding listFrom
+listFrom-same i zero x = refl
+listFrom-same i (suc n) x = rw (listFrom-same (suc i) n x)
+
 -- ---- f 0, f 1, … joined
 pub join-none : (f : ℕ → List ℕ) → joinBelow 0 f ≡ []
 unfolding joinBelow
@@ -49,6 +63,11 @@ join-none f = refl
 pub join-more : (n : ℕ) (f : ℕ → List ℕ) → joinBelow (n + 1) f ≡ joinBelow n f ++ f n
 unfolding joinBelow
 join-more n f = rw add-one
+
+pub join-nil : (n : ℕ) → joinBelow n (λ k. []) ≡ []
+unfolding joinBelow
+join-nil zero = refl
+join-nil (suc n) = rw (join-nil n)
 
 pub join-ext : (n : ℕ) (f h : ℕ → List ℕ) → ((k : ℕ) → k < n → f k ≡ h k) → joinBelow n f ≡ joinBelow n h
 unfolding joinBelow
@@ -128,6 +147,11 @@ module _ (at : ℕ) (ys xs : List ℕ) (fits : at + length ys ≤ length xs) whe
 pub splice-nil : (at : ℕ) (xs : List ℕ) → at ≤ length xs → splice at [] xs ≡ xs
 unfolding splice
 splice-nil at xs h = rw add-zero (take-append-drop at xs)
+
+-- from the start on
+pub splice-start : (n : ℕ) (ys xs : List ℕ) → length ys ≡ n → splice 0 ys xs ≡ ys ++ drop n xs
+unfolding splice
+splice-start n ys xs e = rw (zero-add, e)
 
 -- all written
 pub splice-all : (ys xs : List ℕ) → length ys ≡ length xs → splice 0 ys xs ≡ ys

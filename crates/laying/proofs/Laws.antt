@@ -11,8 +11,8 @@ use lib.ListN.{drop, length, length-append, replicate}
 use Rattle.laws.specs.Folds.{joinBelow}
 use Rattle.laws.specs.Bytes.{le, splice, put, pack}
 use Rattle.laws.proofs.Tests.{not-of-true, not-of-false}
-use Rattle.laws.proofs.Lists.{length-rows, splice-then, splice-all}
-use Rattle.laws.proofs.Bytes.{length-le, pack-append, pack-rows}
+use Rattle.laws.proofs.Lists.{length-rows, splice-then, splice-all, splice-start}
+use Rattle.laws.proofs.Bytes.{length-le, pack-append, pack-rows, pack-same}
 use Rattle.paper.specs.declared.Geometry.{Geometry}
 use Rattle.paper.specs.declared.Answer.the-variants.{Done}
 use Rattle.paper.specs.Geometry.{headerBytes, markerAt, versionAt, takenAt, counterAt, blankAt, version, fixedRegions, noBlock, blockBytes, allowed, indexBytes, sizeAt, frontBytes, slotAt}
@@ -21,18 +21,9 @@ use Rattle.paper.specs.Calls.{lay, laidHeader, laidEntry, laidSize, laid}
 use Rattle.paper.specs.Refusals.{blank, checks, refusal}
 use Rattle.paper.specs.Outcomes.{lent, gives, accepted, outcome}
 use Rattle.rules.proofs.First.{first-nil, first-pass, first-halt}
-use Rattle.rules.proofs.Laid.{listFrom-same, length-laidEntry, length-laid}
+use Rattle.rules.proofs.Laid.{length-laidEntry, length-laid}
 use Rattle.rules.proofs.Outcomes.{outcome-done}
 use Rattle.image.specs.Readable.{Readable, fronted}
-
--- a part written over the start
-splice-start : (n : ℕ) (ys xs : List ℕ) → length ys ≡ n → splice 0 ys xs ≡ ys ++ drop n xs
-unfolding splice
-splice-start n ys xs e = rw (zero-add, e)
-
--- one number n times
-pack-same : (w n x : ℕ) → pack w (replicate n x) ≡ joinBelow n (λ _. le w x)
-pack-same w n x = rw (listFrom-same 0 n x) at (pack-rows w n (λ _. x))
 
 module _ (g : Geometry) where
   -- ---- the header, number by number

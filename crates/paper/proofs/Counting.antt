@@ -113,6 +113,9 @@ module _ (g : Geometry) (pos : 1 ≤ g .pages) where
           absurd (omega (arith, need-least n, mul-le-mul-right {m = k + 1} {n = need g n} (g .pages) (omega arith), add-mul k 1 (g .pages), one-mul (g .pages)))
       go (no l) = omega arith
 
+  pub need-mono : (m n : ℕ) → m ≤ n → need g m ≤ need g n
+  need-mono m n h = need-below m (need g n) (omega (arith, need-enough n))
+
   -- as the code counts it
   pub need-exact : (n : ℕ) → n % g .pages ≡ 0 → n / g .pages ≡ need g n
   unfolding need

@@ -22,7 +22,7 @@ use Rattle.paper.specs.Index.{startOf, blocksOf, indexNumbers, indexOf, startIn
 use Rattle.rules.specs.Facts.{Rules}
 use Rattle.rules.proofs.Facts.{Once, open-below, needs-open}
 use Rattle.rules.proofs.Counting.{slotFor, slots-apart, slot-inside, block-below, block-at}
-use Rattle.rules.proofs.Bytes.{Bytes, bytes-pack, bytes-known}
+use Rattle.laws.proofs.Known.{Bytes, bytes-pack, bytes-known}
 
 module _ (g : Geometry) (t : List ℕ) where
   abbrev starts : List ℕ

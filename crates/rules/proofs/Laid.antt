@@ -13,7 +13,7 @@ use lib.Seq.{drop-drop, drop-append-add, drop-at}
 use Rattle.laws.specs.Folds.{listFrom, joinBelow}
 use Rattle.laws.specs.Bytes.{value, num, le}
 use Rattle.laws.proofs.Folds.{sum-ext, sum-zero}
-use Rattle.laws.proofs.Lists.{listFrom-ext, join-ext, length-rows, drop-rows}
+use Rattle.laws.proofs.Lists.{listFrom-ext, join-ext, length-rows, drop-rows, listFrom-same, join-nil}
 use Rattle.laws.proofs.Bytes.{length-le, value-le}
 use Rattle.paper.specs.declared.Geometry.{Geometry}
 use Rattle.paper.specs.Geometry.{fixedRegions, reclaimed, allOnes, blockBytes, Allowed, noRegion, capacity, mostBookPages, entryAt, sizeAt, frontBytes}
@@ -26,17 +26,6 @@ use Rattle.rules.specs.Facts.{Rules, Header, Formed}
 use Rattle.rules.proofs.Cells.{front-joined, length-joined}
 use Rattle.rules.proofs.Facts.{open-below, is-open, is-not-open, is-past, need-open, need-not-open}
 use Rattle.rules.proofs.First.{image-formed}
-
--- lists of one element, made by a fold
-pub listFrom-same : (i n x : ℕ) → listFrom i n (λ k. x) ≡ replicate n x
-unfolding listFrom
-listFrom-same i zero x = refl
-listFrom-same i (suc n) x = rw (listFrom-same (suc i) n x)
-
-join-nil : (n : ℕ) → joinBelow n (λ k. []) ≡ []
-unfolding joinBelow
-join-nil zero = refl
-join-nil (suc n) = rw (join-nil n)
 
 module _ (g : Geometry) (A : Allowed g) where
   pub length-laidEntry : (b : ℕ) → length (laidEntry g b) ≡ 4
