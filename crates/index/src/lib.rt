@@ -44,7 +44,8 @@ fn slot_for(g: Geometry, image: &[u8], index: &[u8], b: Block) -> usize
     ensures { λ s. ⌜ s ≡ slotFor g (front g (now (image .entry))) (b .0) ⌝ }
 {
     let start = start_in(g, index, image::owner(g, image, b));
-    start as usize + image::place(g, image, b) as usize
+    let place = image::place(g, image, b);
+    start as usize + place as usize
 }
 
 // ---- its writing
@@ -53,11 +54,11 @@ fn write_starts(g: Geometry, image: &[u8], index: &mut [u8])
     requires { ⌜ Tabled g (now image) × Indexed g (now index) ⌝ }
     ensures { λ _. ⌜ Starts g (front g (now (image .entry))) (now (index .exit)) ⌝ }
 {
-    let mut sum: u64 = 0;
+    let mut start: u64 = 0;
     for r in 0..g.entries + 1 {
         let region = Region(r as u32);
-        numbers::write_u16(index, g.start_at(region), sum as u16);
-        sum += image::need(g, image, region);
+        numbers::write_u16(index, g.start_at(region), start as u16);
+        start += image::need(g, image, region);
     }
 }
 
