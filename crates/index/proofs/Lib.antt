@@ -3,3 +3,4 @@ pub mod Slots
 pub mod Numbers
 pub mod Written
 pub mod Witness
+pub mod Repeats

@@ -1,16 +1,19 @@
 // The index: what a lent one says, its writing, and its check against the tables.
 ghost use mathlib.Core.Path.{_≡_};
-ghost use Prim.Native.Nat.{_+_, _≤_, _<_};
+ghost use Prim.Native.Nat.{_+_, _≤_, _<_, min};
+ghost use lib.ListN.{length};
 ghost use Rattle.laws.specs.Bytes.{put};
 ghost use Rattle.laws.specs.Folds.{allBelow, allFrom};
 ghost use Rattle.paper.specs.Geometry.{slotAt};
 ghost use Rattle.paper.specs.Image.{front, taken};
-ghost use Rattle.paper.specs.Index.{indexOf, startIn, slotIn};
+ghost use Rattle.paper.specs.Index.{indexOf, startOf, startIn, slotIn};
+ghost use Rattle.paper.specs.WellFormed.{alone};
 ghost use Rattle.rules.specs.Facts.{Rules};
 ghost use Rattle.rules.proofs.Counting.{slotFor};
 ghost use Rattle.image.specs.Readable.{Readable};
 ghost use Rattle.index.specs.Loose.{Tabled};
 ghost use Rattle.index.specs.Witnessed.{Indexed, Starts, Spare, Witness, startRight, blockRight, spareRight, witnessed};
+ghost use Rattle.index.specs.Repeats.{unseen, marked, apart, StartsFrom, Framed};
 use paper::Block;
 use paper::Geometry;
 use paper::Region;
@@ -41,7 +44,8 @@ fn slot_for(g: Geometry, image: &[u8], index: &[u8], b: Block) -> usize
     ensures { λ s. ⌜ s ≡ slotFor g (front g (now (image .entry))) (b .0) ⌝ }
 {
     let start = start_in(g, index, image::owner(g, image, b));
-    start as usize + image::place(g, image, b) as usize
+    let place = image::place(g, image, b);
+    start as usize + place as usize
 }
 
 // ---- its writing
@@ -50,11 +54,11 @@ fn write_starts(g: Geometry, image: &[u8], index: &mut [u8])
     requires { ⌜ Tabled g (now image) × Indexed g (now index) ⌝ }
     ensures { λ _. ⌜ Starts g (front g (now (image .entry))) (now (index .exit)) ⌝ }
 {
-    let mut sum: u64 = 0;
+    let mut start: u64 = 0;
     for r in 0..g.entries + 1 {
         let region = Region(r as u32);
-        numbers::write_u16(index, g.start_at(region), sum as u16);
-        sum += image::need(g, image, region);
+        numbers::write_u16(index, g.start_at(region), start as u16);
+        start += image::need(g, image, region);
     }
 }
 
@@ -146,4 +150,148 @@ pub fn witnessed(g: Geometry, image: &[u8], index: &[u8]) -> bool
         return false;
     }
     spare_right(g, image, index)
+}
+
+// ---- whether two blocks name the same pair, from the tables alone
+
+// Regions from `first` up to `last`, and of their slots those from `from` up to `to`.
+struct Window {
+    first: usize,
+    last: usize,
+    from: usize,
+    to: usize,
+}
+
+fn least(a: usize, b: usize) -> usize
+    ensures { λ r. ⌜ r ≡ min a b ⌝ }
+{
+    if a < b {
+        return a;
+    }
+    b
+}
+
+// The starts of the regions from `first` up to `last`, of which `start` is the first; answers the start after them.
+fn read_starts(
+    g: Geometry,
+    image: &[u8],
+    first: usize,
+    last: usize,
+    start: usize,
+    starts: &mut [u16],
+) -> usize
+    requires { ⌜ Tabled g (now image) ⌝ }
+    requires { ⌜ (first ≤ last) × (last ≤ g .entries) × (last ≤ first + length (now starts)) ⌝ }
+    requires { ⌜ start ≡ startOf g (front g (now image)) first ⌝ }
+    ensures { λ e. ⌜ (e ≡ startOf g (front g (now (image .entry))) last) × StartsFrom g (front g (now (image .entry))) first last (now (starts .exit)) ⌝ }
+{
+    let mut sum = start;
+    for r in first..last {
+        starts[r - first] = sum as u16;
+        sum += image::need(g, image, Region(r as u32)) as usize;
+    }
+    sum
+}
+
+// Marks block b's slot, where it is one of the window's; false where it is marked already.
+fn mark(g: Geometry, image: &[u8], w: Window, starts: &[u16], seen: &mut [u8], b: Block) -> bool
+    requires { ⌜ Tabled g (now image) × Framed g (front g (now image)) w (now starts) ⌝ }
+    requires { ⌜ w .to ≤ w .from + length (now seen) ⌝ }
+    requires { ⌜ b .0 < taken g (front g (now image)) ⌝ }
+    ensures { λ t. ⌜ t ≡ unseen (w .from) (w .to) (slotFor g (front g (now (image .entry))) (b .0)) (now (seen .entry)) ⌝ }
+    ensures { λ _. ⌜ now (seen .exit) ≡ marked (w .from) (w .to) (slotFor g (front g (now (image .entry))) (b .0)) (now (seen .entry)) ⌝ }
+{
+    let r = image::owner(g, image, b).0 as usize;
+    if r < w.first {
+        return true;
+    }
+    if w.last <= r {
+        return true;
+    }
+    let nth = r - w.first;
+    let s = starts[nth] as usize + image::place(g, image, b) as usize;
+    if s < w.from {
+        return true;
+    }
+    if w.to <= s {
+        return true;
+    }
+    let at = s - w.from;
+    let before = seen[at];
+    seen[at] = 1;
+    before == 0
+}
+
+// One pass over the blocks for a window that `seen` has room for.
+fn window_apart(g: Geometry, image: &[u8], w: Window, starts: &[u16], seen: &mut [u8]) -> bool
+    requires { ⌜ Tabled g (now image) × Framed g (front g (now image)) w (now starts) ⌝ }
+    requires { ⌜ w .to ≤ w .from + length (now seen) ⌝ }
+    ensures { λ t. ⌜ t ≡ apart g (front g (now (image .entry))) (w .from) (w .to) ⌝ }
+{
+    numbers::zero(seen);
+    for b in 0..image::taken(g, image) {
+        if !mark(g, image, w, starts, seen, Block(b)) {
+            return false;
+        }
+    }
+    true
+}
+
+// A window of any size, by as many as `seen` has room for.
+fn windows_apart(g: Geometry, image: &[u8], w: Window, starts: &[u16], seen: &mut [u8]) -> bool
+    requires { ⌜ Tabled g (now image) × Framed g (front g (now image)) w (now starts) ⌝ }
+    requires { ⌜ (0 < length (now seen)) × (w .from ≤ w .to) ⌝ }
+    ensures { λ t. ⌜ t ≡ apart g (front g (now (image .entry))) (w .from) (w .to) ⌝ }
+{
+    let mut from = w.from;
+    while from < w.to {
+        let to = from + least(w.to - from, seen.len());
+        let part = Window {
+            first: w.first,
+            last: w.last,
+            from,
+            to,
+        };
+        if !window_apart(g, image, part, starts, seen) {
+            return false;
+        }
+        from = to;
+    }
+    true
+}
+
+// All regions, by as many as `starts` has room for. A pass for regions that hold no block is left out.
+fn all_apart(g: Geometry, image: &[u8], starts: &mut [u16], seen: &mut [u8]) -> bool
+    requires { ⌜ Tabled g (now image) ⌝ }
+    requires { ⌜ (0 < length (now starts)) × (0 < length (now seen)) ⌝ }
+    ensures { λ t. ⌜ t ≡ apart g (front g (now (image .entry))) 0 (taken g (front g (now (image .entry)))) ⌝ }
+{
+    let mut first = 0;
+    let mut from = 0;
+    while first < g.entries {
+        let last = first + least(g.entries - first, starts.len());
+        let to = read_starts(g, image, first, last, from, starts);
+        let w = Window {
+            first,
+            last,
+            from,
+            to,
+        };
+        if !windows_apart(g, image, w, starts, seen) {
+            return false;
+        }
+        first = last;
+        from = to;
+    }
+    true
+}
+
+// Whether no two blocks name the same pair. The two arrays have 12 KiB; full tables are passed over at most E / 2,048 + N / 8,192 times.
+pub fn alone_all(g: Geometry, image: &[u8]) -> bool
+    requires { ⌜ Tabled g (now image) ⌝ }
+    ensures { λ t. ⌜ t ≡ allBelow (taken g (front g (now (image .entry)))) (alone g (front g (now (image .entry)))) ⌝ }
+{
+    let mut starts = [0u16; 2048];
+    let mut seen = [0u8; 8192];
+    all_apart(g, image, &mut starts, &mut seen)
 }

@@ -18,11 +18,11 @@ start-in-requires c κs =
     let p = c .before .before .before .pre in
     (p .0 .1, omega (arith, owner-below (a .g) (front (a .g) (a .image .now)) (p .0 .0 .loose) (a .b .0) (p .1 .1)))
 
-cast-result : tie.Need-cast-result
-cast-result c = search needs
-
 place-requires : tie.Need-place-requires
 place-requires c κs = search needs
+
+cast-result : tie.Need-cast-result
+cast-result c = search needs
 
 cast-result-2 : tie.Need-cast-result-2
 cast-result-2 c = search needs
@@ -46,8 +46,8 @@ slot-for-spec =
     (tie.spec
     owner-requires
     start-in-requires
-    cast-result
     place-requires
+    cast-result
     cast-result-2
     add-result
     returns)

@@ -1,4 +1,4 @@
--- Every start before `r` stands, and the sum is the next.
+-- Every start before `r` stands, and `start` is the next.
 use Prim.Native.Nat.{ℕ, _+_, _-_, _≤_, _<_}
 use mathlib.Core.Path.{_≡_, refl, sym, ap, _∙_}
 use lib.ListN.{length}
@@ -15,12 +15,12 @@ use Rattle.index.proofs.write_starts.Statement.{statement}
 use Rattle.index.proofs.write_starts.Tie as tie
 
 abbrev Inv-loop : tie.InvT-loop
-Inv-loop g image index₀ sum₀ r₀ r-end index sum r =
-    (r ≤ g .entries + 1) × (length index ≡ length index₀) × (sum ≡ startOf g (front g image) r)
+Inv-loop g image index₀ start₀ r₀ r-end index start r =
+    (r ≤ g .entries + 1) × (length index ≡ length index₀) × (start ≡ startOf g (front g image) r)
     × ((q : ℕ) → q < r → startIn g index q ≡ startOf g (front g image) q)
 
 abbrev μ-loop : tie.MeasureT-loop
-μ-loop g image index₀ sum₀ r₀ r-end index sum r = r-end - r
+μ-loop g image index₀ start₀ r₀ r-end index start r = r-end - r
 
 add-r-end : tie.Need-add-r-end Inv-loop μ-loop
 add-r-end c = search needs
@@ -46,8 +46,8 @@ write-u16-requires c κs = search needs
 need-requires : tie.Need-need-requires Inv-loop μ-loop
 need-requires c κs = search needs
 
-add-sum : tie.Need-add-sum Inv-loop μ-loop
-add-sum c =
+add-start : tie.Need-add-start Inv-loop μ-loop
+add-start c =
     let a = c .before .before .before .before .before .before .before .before .before .before .before .args in
     let x = c .before .before .before .before .before .before .before .loop in
     let p = c .before .before .before .before .before .before .before .before .before .before .before .pre in
@@ -68,11 +68,11 @@ loop-again c =
     let t = front (a .g) (a .image .now) in
     let l : x .r ≤ a .g .entries = omega arith in
     let n = need-inside (a .g) t (p .0 .loose) (x .r) l in
-    let e = w .ensures ∙ ap (λ o. put 2 o (x .sum) (x .index)) (c .before .before .before .before .start-at .ensures) in (
+    let e = w .ensures ∙ ap (λ o. put 2 o (x .start) (x .index)) (c .before .before .before .before .start-at .ensures) in (
       omega arith,
       w .kept .0 ∙ x .inv .1,
       omega (arith, sum-more (x .r) (needOf (a .g) t)),
-      rw e (start-more (a .g) t (x .index) (record { allowed = p .1 .allowed; long = x .inv .1 ∙ p .1 .long }) (x .r) (x .sum) l (omega (arith, p .0 .bound, p .1 .allowed .blocks-most)) (x .inv .2) (x .inv .3)),
+      rw e (start-more (a .g) t (x .index) (record { allowed = p .1 .allowed; long = x .inv .1 ∙ p .1 .long }) (x .r) (x .start) l (omega (arith, p .0 .bound, p .1 .allowed .blocks-most)) (x .inv .2) (x .inv .3)),
     )
 
 same-length : tie.Need-same-length Inv-loop μ-loop
@@ -94,7 +94,7 @@ write-starts-spec =
     cast-write-u16
     write-u16-requires
     need-requires
-    add-sum
+    add-start
     add-r
     loop-less
     loop-again

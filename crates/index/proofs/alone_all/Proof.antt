@@ -1,0 +1,24 @@
+-- `index::alone_all` meets its contract: one slot is one pair.
+use mathlib.Core.Path.{_∙_}
+use Rattle.paper.specs.Image.{front}
+use Rattle.index.proofs.Repeats.{apart-alone}
+use borrow.Author.Needs.{needs}
+use Rattle.index.proofs.alone_all.Statement.{statement}
+use Rattle.index.proofs.alone_all.Tie as tie
+
+slice-aggregate-all-apart : tie.Need-slice-aggregate-all-apart
+slice-aggregate-all-apart c = search needs
+
+slice-aggregate-all-apart-2 : tie.Need-slice-aggregate-all-apart-2
+slice-aggregate-all-apart-2 c = search needs
+
+all-apart-requires : tie.Need-all-apart-requires
+all-apart-requires c κs = search needs
+
+returns : tie.Need-returns
+returns c = let a = c .before .before .before .before .before .before .args in c .before .before .all-apart .ensures ∙ apart-alone (a .g) (front (a .g) (a .image .now)) (c .before .before .before .before .before .before .pre .loose)
+
+pub alone-all-spec : {M : Type 1} → statement M
+alone-all-spec =
+    tie.close
+    (tie.spec slice-aggregate-all-apart slice-aggregate-all-apart-2 all-apart-requires returns)
