@@ -1,0 +1,39 @@
+-- `load` meets its contract.
+use Prim.Native.Nat.{ℕ}
+use mathlib.Core.Path.{_≡_, sym, _∙_, ap}
+use mathlib.Core.List.{List}
+use lib.ListN.{length}
+use Rattle.paper.specs.declared.Answer.the-variants.{Done}
+use Rattle.paper.specs.Outcomes.{lent, gives}
+use Rattle.contents.proofs.Refusal.{read-accepted}
+use Rattle.contents.proofs.Calls.{load-refused, load-done}
+use borrow.Author.Needs.{needs}
+use Rattle.contents.proofs.load.Statement.{statement}
+use Rattle.contents.proofs.load.Tie as tie
+
+read-refusal-requires : tie.Need-read-refusal-requires
+read-refusal-requires c κs = search needs
+
+returns : tie.Need-returns
+returns c =
+    let a = c .before .before .before .before .before .args in
+    let K = c .before .read-refusal in
+    load-refused (a .g) (a .image .now) (a .index .now) (a .region .0) (a .offset .0) (a .buffer .now) (K .result) (K .ensures) (c .if1 .taken)
+
+copy-out-requires : tie.Need-copy-out-requires
+copy-out-requires c κs =
+    let a = c .before .before .before .before .before .before .args in
+    read-accepted (a .g) (a .image .now) (a .index .now) (a .region .0) (a .offset .0) (length (a .buffer .now)) (sym (c .before .before .read-refusal .ensures) ∙ c .before .if1 .left)
+
+same-length : tie.Need-same-length
+same-length c = search needs
+
+returns-2 : tie.Need-returns-2
+returns-2 c =
+    let a = c .before .before .before .before .before .before .before .before .before .args in
+    ap (λ (xs : List ℕ). gives (Done 0) xs (lent (a .image .now) (a .index .now))) (c .before .before .copy-out .ensures)
+    ∙ load-done (a .g) (a .image .now) (a .index .now) (a .region .0) (a .offset .0) (a .buffer .now) (sym (c .before .before .before .before .before .read-refusal .ensures) ∙ c .before .before .before .before .if1 .left)
+
+pub load-spec : {M : Type 1} → statement M
+load-spec =
+    tie.close (tie.spec read-refusal-requires returns copy-out-requires same-length returns-2)

@@ -1,0 +1,124 @@
+// The calls on a book's contents: load, store and look.
+ghost use mathlib.Core.Bool.{Bool};
+ghost use mathlib.Core.List.{[]};
+ghost use mathlib.Core.Path.{_≡_};
+ghost use Prim.Native.Nat.{_+_, _*_, _<_, _≤_};
+ghost use lib.Dec.{ltb};
+ghost use lib.ListN.{length};
+ghost use Rattle.paper.specs.Geometry.{mostBookPages};
+ghost use Rattle.paper.specs.Image.{front, pagesOf};
+ghost use Rattle.paper.specs.Calls.{load, store, look};
+ghost use Rattle.paper.specs.Outcomes.{lent, gives, outcome};
+ghost use Rattle.image.specs.Readable.{Readable};
+ghost use Rattle.contents.specs.Refusal.{readRefusal};
+use paper::Answer;
+use paper::Geometry;
+use paper::Offset;
+use paper::Region;
+
+fn book_bytes(g: Geometry, image: &[u8], region: Region) -> u64
+    requires { ⌜ Readable g (now image) ⌝ }
+    requires { ⌜ (region .0 < g .entries) × (pagesOf g (front g (now image)) (region .0) ≤ mostBookPages g) ⌝ }
+    ensures { λ n. ⌜ n ≡ pagesOf g (front g (now (image .entry))) (region .0) * g .page ⌝ }
+{
+    image::pages(g, image, region).0 * g.page as u64
+}
+
+// Offset plus length beyond the book's bytes. The sum could wrap, so it is not formed.
+fn beyond(g: Geometry, image: &[u8], region: Region, offset: Offset, n: usize) -> bool
+    requires { ⌜ Readable g (now image) ⌝ }
+    requires { ⌜ (region .0 < g .entries) × (pagesOf g (front g (now image)) (region .0) ≤ mostBookPages g) ⌝ }
+    ensures { λ t. ⌜ t ≡ ltb (pagesOf g (front g (now (image .entry))) (region .0) * g .page) (offset .0 + n) ⌝ }
+{
+    let bytes = book_bytes(g, image, region);
+    if bytes < offset.0 {
+        return true;
+    }
+    bytes - offset.0 < n as u64
+}
+
+// 1 to 5, 8, 6, 9, 7 for n bytes at the offset; 0 where none applies.
+fn read_refusal(
+    g: Geometry,
+    image: &[u8],
+    index: &[u8],
+    region: Region,
+    offset: Offset,
+    n: usize,
+) -> u8
+    ensures { λ k. ⌜ k ≡ readRefusal g (now (image .entry)) (now (index .entry)) (region .0) (offset .0) n ⌝ }
+{
+    let no = desk::early_indexed(g, image, index);
+    if no != 0 {
+        return no;
+    }
+    let no = desk::book_refusal(g, image, region);
+    if no != 0 {
+        return no;
+    }
+    if beyond(g, image, region, offset, n) {
+        return desk::BEYOND;
+    }
+    if !stretches::touched_right(g, image, index, region, offset, n) {
+        return desk::INDEX;
+    }
+    0
+}
+
+// Fills the lent buffer; its length is the number of bytes asked.
+pub fn load(
+    g: Geometry,
+    image: &[u8],
+    index: &[u8],
+    region: Region,
+    offset: Offset,
+    buffer: &mut [u8],
+) -> Answer
+    ensures { λ r. ⌜ gives r (now (buffer .exit)) (lent (now (image .entry)) (now (index .entry))) ≡ outcome g (load (region .0) (offset .0) (now (buffer .entry))) (lent (now (image .entry)) (now (index .entry))) ⌝ }
+{
+    let no = read_refusal(g, image, index, region, offset, buffer.len());
+    if no != 0 {
+        return Answer::Refused(no);
+    }
+    stretches::copy_out(g, image, index, region, offset, buffer);
+    Answer::Done(0)
+}
+
+// Writes the lent bytes; every block that they touch is checked before the first is written.
+pub fn store(
+    g: Geometry,
+    image: &mut [u8],
+    index: &[u8],
+    region: Region,
+    offset: Offset,
+    bytes: &[u8],
+) -> Answer
+    ensures { λ r. ⌜ gives r [] (lent (now (image .exit)) (now (index .entry))) ≡ outcome g (store (region .0) (offset .0) (now (bytes .entry))) (lent (now (image .entry)) (now (index .entry))) ⌝ }
+{
+    let no = read_refusal(g, image, index, region, offset, bytes.len());
+    if no != 0 {
+        return Answer::Refused(no);
+    }
+    stretches::copy_in(g, image, index, region, offset, bytes);
+    Answer::Done(0)
+}
+
+// The caller's own image bytes from the offset to the end of the block or book, whichever comes first.
+pub fn look<'a, 'b>(
+    g: Geometry,
+    image: &'a [u8],
+    index: &'b [u8],
+    region: Region,
+    offset: Offset,
+) -> &'a [u8]
+    ensures { λ r. ⌜ now r ≡ outcome g (look (region .0) (offset .0)) (lent (now (image .entry)) (now (index .entry))) .bytes ⌝ }
+{
+    if read_refusal(g, image, index, region, offset, 1) != 0 {
+        return &image[0..0];
+    }
+    let left = (book_bytes(g, image, region) - offset.0) as usize;
+    let s = stretches::first_stretch(g, index, region, offset, left);
+    let from = s.at;
+    let to = from + s.bytes;
+    &image[from..to]
+}
