@@ -1,8 +1,8 @@
 -- The outcome of load, store and look: refused, and done.
-use Prim.Native.Nat.{ℕ, _+_, _-_, _*_, _/_, _%_, _≤_, _<_, min}
+use Prim.Native.Nat.{ℕ, _+_, _-_, _*_, _≤_, _<_, min}
 use mathlib.Core.Logic.{_≢_}
-use mathlib.Core.Path.{_≡_, refl, sym, _∙_}
-use mathlib.Core.List.{List, [], _∷_}
+use mathlib.Core.Path.{_≡_, sym, _∙_}
+use mathlib.Core.List.{List, []}
 use native.Mathlib.Omega.{arith}
 use native.Mathlib.Nat.{add-mul, one-mul, div-mul-le-self, lt-div-mul-add}
 use native.Mathlib.Decide.{decLe}
@@ -12,19 +12,20 @@ use Rattle.paper.specs.declared.Answer.the-variants.{Done, Refused}
 use Rattle.paper.specs.Geometry.{blockBytes, Allowed, dataAt}
 use Rattle.paper.specs.Image.{front, pagesOf, needOf}
 use Rattle.paper.specs.Index.{startIn, blockIn}
-use Rattle.paper.specs.Calls.{load, store, look, loaded, stored, lookBytes}
-use Rattle.paper.specs.Refusals.{checks, refusal}
+use Rattle.paper.specs.Calls.{load, store, loaded, stored, lookBytes}
+use Rattle.paper.specs.Refusals.{refusal}
 use Rattle.paper.specs.Outcomes.{State, lent, gives, accepted, buffer, outcome}
 use Rattle.paper.proofs.Counting.{block-positive}
 use Rattle.rules.specs.Facts.{Reads}
 use Rattle.rules.proofs.Touched.{touched-some}
 use Rattle.rules.proofs.Checks.{load-refusal, store-refusal}
-use Rattle.rules.proofs.Outcomes.{outcome-done, look-empty, look-part}
+use Rattle.rules.proofs.Outcomes.{outcome-done}
 use Rattle.desk.proofs.Shared.{refused}
+use Rattle.keeping.proofs.Cut.{cut-inside}
 use Rattle.keeping.proofs.Loaded.{loaded-within}
 use Rattle.stretches.specs.declared.Stretch.{Stretch}
 use Rattle.stretches.specs.Stretch.{firstTouched, endTouched, cutFrom, cutTo, Touches, IsStretch}
-use Rattle.stretches.proofs.Touched.{cut-inside, cut-from, cut-start}
+use Rattle.stretches.proofs.Touched.{cut-from, cut-start}
 use Rattle.stretches.proofs.Right.{reads-right, reads-within}
 use Rattle.stretches.proofs.Walks.{stretch-fits}
 use Rattle.contents.specs.Refusal.{readRefusal}

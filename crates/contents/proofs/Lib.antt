@@ -1,2 +1,4 @@
 pub mod Refusal
 pub mod Calls
+pub mod Written
+pub mod Theorems

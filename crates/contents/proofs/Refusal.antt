@@ -8,7 +8,7 @@ use native.Mathlib.Omega.{arith}
 use native.Mathlib.Decide.{decLt}
 use borrow.Author.Tests.{lt-ltb, le-ltb}
 use lib.Dec.{ltb}
-use lib.ListN.{length, replicate, length-replicate}
+use lib.ListN.{replicate, length-replicate}
 use Rattle.laws.proofs.Tests.{not-of-true, not-of-false}
 use Rattle.paper.specs.declared.Geometry.{Geometry}
 use Rattle.paper.specs.Image.{front, pagesOf}

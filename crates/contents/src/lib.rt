@@ -1,10 +1,8 @@
 // The calls on a book's contents: load, store and look.
-ghost use mathlib.Core.Bool.{Bool};
 ghost use mathlib.Core.List.{[]};
 ghost use mathlib.Core.Path.{_≡_};
 ghost use Prim.Native.Nat.{_+_, _*_, _<_, _≤_};
 ghost use lib.Dec.{ltb};
-ghost use lib.ListN.{length};
 ghost use Rattle.paper.specs.Geometry.{mostBookPages};
 ghost use Rattle.paper.specs.Image.{front, pagesOf};
 ghost use Rattle.paper.specs.Calls.{load, store, look};

@@ -1,6 +1,6 @@
 -- A position whose block stands in the index, test by test; and what is known of the touched ones where a load or store is accepted.
-use Prim.Native.Nat.{ℕ, _+_, _-_, _*_, _≤_, _<_}
-use mathlib.Core.Bool.{Bool, true, false, _&&_}
+use Prim.Native.Nat.{ℕ, _+_, _-_, _≤_, _<_}
+use mathlib.Core.Bool.{true, false, _&&_}
 use mathlib.Core.Path.{_≡_, sym, _∙_}
 use mathlib.Core.List.{List}
 use native.Mathlib.Omega.{arith}
@@ -11,7 +11,7 @@ use Rattle.laws.specs.Folds.{allFrom}
 use Rattle.laws.proofs.Tests.{and-parts, and-false-left, and-false-right}
 use Rattle.laws.proofs.Folds.{all-from}
 use Rattle.paper.specs.declared.Geometry.{Geometry}
-use Rattle.paper.specs.Geometry.{blockBytes, dataAt, capacity}
+use Rattle.paper.specs.Geometry.{blockBytes, dataAt}
 use Rattle.paper.specs.Image.{front, taken, owner, place, names, pagesOf, needOf}
 use Rattle.paper.specs.Index.{startIn, blockIn}
 use Rattle.paper.specs.Refusals.{rightAt, touched, touchedRight}

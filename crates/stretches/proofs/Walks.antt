@@ -1,8 +1,7 @@
 -- A walk over the touched positions, stretch by stretch: what a load has read, and what a store has written, before position p.
-use Prim.Native.Nat.{ℕ, _+_, _-_, _*_, _≤_, _<_, min}
-use mathlib.Core.Logic.{_≢_}
-use mathlib.Core.Path.{_≡_, refl, sym, _∙_, ap}
-use mathlib.Core.List.{List, [], _++_}
+use Prim.Native.Nat.{ℕ, _+_, _-_, _*_, _≤_, min}
+use mathlib.Core.Path.{_≡_, sym, _∙_}
+use mathlib.Core.List.{List}
 use native.Mathlib.Omega.{arith}
 use native.Mathlib.Nat.{zero-add, suc-mul, div-mul-le-self}
 use native.Mathlib.Numerals.{add-one}
@@ -18,11 +17,12 @@ use Rattle.paper.specs.Geometry.{blockBytes, Allowed, dataAt}
 use Rattle.paper.specs.Calls.{loaded, stretch, stored}
 use Rattle.paper.specs.Refusals.{touched}
 use Rattle.rules.proofs.Touched.{touched-ends}
+use Rattle.keeping.proofs.Cut.{cut-inside}
 use Rattle.keeping.proofs.Loaded.{length-loaded, loaded-none, loaded-add, loaded-within}
 use Rattle.keeping.proofs.Stored.{stored-touched}
 use Rattle.stretches.specs.declared.Stretch.{Stretch}
 use Rattle.stretches.specs.Stretch.{firstTouched, endTouched, cutFrom, cutTo, Touches, IsStretch}
-use Rattle.stretches.proofs.Touched.{cut-inside, cut-start, cut-before, cut-after}
+use Rattle.stretches.proofs.Touched.{cut-start, asked-before, asked-through}
 
 -- a stretch lies in its block, and the block in the image
 within : (d a k w l : ℕ) → a + k ≤ w → d + w ≤ l → d + a + k ≤ l
@@ -35,7 +35,7 @@ stretch-fits g b o n p bytes s S T fits =
     let q = p * blockBytes g in
     let w = blockBytes g in (
       rw (S .at, S .bytes) (within (dataAt g b) (cutFrom g o p) (cutTo g o n p - cutFrom g o p) w bytes (cut-inside o n q w) fits),
-      rw (S .skip, S .bytes, cut-after o n q w (T .begins) (T .ends)) (omega arith),
+      rw (S .skip, S .bytes, asked-through o n q w (T .begins) (T .ends)) (omega arith),
     )
 
 length-cut : (a k : ℕ) (xs : List ℕ) → a + k ≤ length xs → length (take k (drop a xs)) ≡ k
@@ -76,8 +76,8 @@ module _ (g : Geometry) (A : Allowed g) (at : ℕ → ℕ) (o : ℕ) (image buff
       let q = p * w in
       let a = cutFrom g o p in
       let k = cutTo g o n p - cutFrom g o p in
-      let e : min (q - o) n ≡ q - o = cut-before o n q w (T .begins) (T .ends) in
-      let f : min ((p + 1) * w - o) n ≡ (q - o) + k = rw (add-one, suc-mul) (sym (cut-after o n q w (T .begins) (T .ends))) in
+      let e : min (q - o) n ≡ q - o = asked-before o n q w (T .begins) (T .ends) in
+      let f : min ((p + 1) * w - o) n ≡ (q - o) + k = rw (add-one, suc-mul) (sym (asked-through o n q w (T .begins) (T .ends))) in
       let part = loaded-within g A at p a k image (cut-inside o n q w) (within (dataAt g (at p)) a k w (length image) (cut-inside o n q w) fits) in
       rw (← part, cut-start o n q w (T .begins) (T .ends), f, loaded-add g at o (q - o) k image, e)
       (splice-then 0 (q - o) (loaded g at o (q - o) image) (loaded g at (o + (q - o)) k image) buffer (rw (length-loaded, zero-add)) (omega arith))

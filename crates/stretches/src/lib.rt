@@ -1,8 +1,8 @@
 // The stretches of a book that n bytes from an offset on touch: found in the index, checked, and copied.
 ghost use mathlib.Core.Path.{_≡_};
-ghost use Prim.Native.Nat.{ℕ, _+_, _*_, _/_, _^_, _<_, _≤_, min};
+ghost use Prim.Native.Nat.{_+_, _*_, _/_, _^_, _<_, min};
 ghost use lib.ListN.{length};
-ghost use Rattle.paper.specs.Geometry.{Allowed, blockBytes, indexBytes};
+ghost use Rattle.paper.specs.Geometry.{Allowed, indexBytes};
 ghost use Rattle.paper.specs.Image.{front, needOf};
 ghost use Rattle.paper.specs.Index.{startIn, slotIn, blockIn};
 ghost use Rattle.paper.specs.Calls.{loaded, stored};

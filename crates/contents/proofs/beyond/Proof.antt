@@ -1,6 +1,6 @@
 -- `beyond` meets its contract.
 use Prim.Native.Nat.{_+_, _*_, _<_}
-use mathlib.Core.Path.{_≡_, sym, _∙_}
+use mathlib.Core.Path.{sym, _∙_}
 use borrow.Author.Tests.{lt-ltb}
 use Rattle.paper.specs.Image.{front, pagesOf}
 use Rattle.contents.proofs.Refusal.{left-over}

@@ -1,6 +1,6 @@
 -- `look` meets its contract.
 use Prim.Native.Nat.{ℕ, _+_, _-_, _≤_}
-use mathlib.Core.Path.{_≡_, sym, _∙_, ap}
+use mathlib.Core.Path.{sym, _∙_, ap}
 use lib.ListN.{length}
 use Rattle.paper.specs.Image.{front, pagesOf}
 use Rattle.paper.specs.Outcomes.{lent}

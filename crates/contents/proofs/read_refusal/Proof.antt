@@ -1,6 +1,6 @@
 -- `read_refusal` meets its contract.
 use Prim.Native.Nat.{_+_, _*_, _≤_}
-use mathlib.Core.Path.{_≡_, sym, _∙_}
+use mathlib.Core.Path.{sym, _∙_}
 use borrow.Author.Tests.{ltb-false, not-true, not-false}
 use Rattle.paper.specs.Image.{front, pagesOf}
 use Rattle.paper.proofs.Counting.{book-bytes-bound}

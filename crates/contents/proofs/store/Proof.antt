@@ -1,6 +1,6 @@
 -- `store` meets its contract.
 use Prim.Native.Nat.{ℕ}
-use mathlib.Core.Path.{_≡_, sym, _∙_, ap}
+use mathlib.Core.Path.{sym, _∙_, ap}
 use mathlib.Core.List.{List, []}
 use lib.ListN.{length}
 use Rattle.paper.specs.declared.Answer.the-variants.{Done}

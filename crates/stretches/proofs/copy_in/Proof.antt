@@ -1,13 +1,10 @@
 -- `copy_in` meets its contract: before position p the image is the store's, up to there.
-use Prim.Native.Nat.{ℕ, _+_, _-_, _*_, _≤_}
-use mathlib.Core.Path.{_≡_, refl, _∙_, ap, sym}
-use mathlib.Core.List.{List}
+use Prim.Native.Nat.{_-_, _≤_}
+use mathlib.Core.Path.{_≡_, refl, _∙_, ap}
 use lib.ListN.{length}
-use Rattle.paper.specs.Geometry.{blockBytes, dataAt}
 use Rattle.paper.specs.Index.{blockIn}
 use Rattle.paper.specs.Calls.{stretch}
-use Rattle.paper.proofs.Counting.{block-positive}
-use Rattle.stretches.specs.Stretch.{blockFrom, firstTouched, endTouched, cutFrom, cutTo}
+use Rattle.stretches.specs.Stretch.{blockFrom, endTouched}
 use Rattle.stretches.proofs.Right.{Step, reads-region, reads-bound, reads-need, reads-step}
 use Rattle.stretches.proofs.Walks.{stretch-fits, writtenTo, written-none, written-more, written-all}
 use native.Mathlib.Omega.{arith}

@@ -1,7 +1,6 @@
 -- `copy_out` meets its contract: before position p the buffer holds the book's bytes, up to there.
-use Prim.Native.Nat.{ℕ, _+_, _-_, _*_, _≤_}
-use mathlib.Core.Path.{_≡_, refl, _∙_, ap, sym}
-use mathlib.Core.List.{List}
+use Prim.Native.Nat.{_+_, _-_, _≤_}
+use mathlib.Core.Path.{_≡_, refl, _∙_}
 use lib.ListN.{length}
 use Rattle.laws.proofs.Lists.{copied-splice}
 use Rattle.paper.specs.Index.{blockIn}

@@ -1,5 +1,4 @@
 -- `first_stretch` meets its contract.
-use mathlib.Core.Path.{_≡_, _∙_, ap}
 use native.Mathlib.Nat.{div-add-mod', mod-lt}
 use Rattle.paper.specs.Geometry.{blockBytes}
 use Rattle.paper.proofs.Counting.{block-positive}

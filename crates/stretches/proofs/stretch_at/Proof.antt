@@ -1,5 +1,5 @@
 -- `stretch_at` meets its contract.
-use Prim.Native.Nat.{ℕ, _+_, _-_, _*_}
+use Prim.Native.Nat.{ℕ, _-_, _*_}
 use mathlib.Core.Path.{_≡_, _∙_, ap}
 use native.Mathlib.Nat.{sub-zero}
 use Rattle.paper.specs.Geometry.{blockBytes, dataAt}
