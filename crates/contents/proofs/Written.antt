@@ -17,7 +17,7 @@ use Rattle.paper.specs.Calls.{stretch, stored}
 use Rattle.paper.specs.Refusals.{touched}
 use Rattle.rules.specs.Facts.{Reads}
 use Rattle.rules.proofs.Touched.{touched-byte}
-use Rattle.keeping.proofs.General.{steps-ext}
+use Rattle.laws.proofs.Folds.{steps-ext}
 use Rattle.keeping.proofs.Stored.{over, over-in, over-before, over-after, Stored, stored-all, stored-touched}
 use Rattle.stretches.specs.Stretch.{firstTouched, endTouched}
 use Rattle.stretches.proofs.Right.{Right, reads-need, reads-right, reads-within}
