@@ -1,0 +1,2 @@
+-- Which number recovery's checks answer, and those of a lent index; and what recovery leaves.
+pub mod Refused

@@ -1,0 +1,90 @@
+// Recovery, and the check of a lent index against what recovery would give.
+ghost use mathlib.Core.Path.{_≡_};
+ghost use mathlib.Core.List.{[]};
+ghost use Prim.Native.Nat.{_≤_};
+ghost use Rattle.paper.specs.Image.{front, taken};
+ghost use Rattle.paper.specs.WellFormed.{inOrder};
+ghost use Rattle.paper.specs.Calls.{recover};
+ghost use Rattle.paper.specs.Outcomes.{lent, gives, outcome};
+ghost use Rattle.image.specs.Readable.{Readable};
+ghost use Rattle.recovery.specs.Refused.{loosely, Recoverable, InOrder};
+use paper::Answer;
+use paper::Geometry;
+
+// Rules a to e, but for the last sentence of d.
+fn loosely(g: Geometry, image: &[u8]) -> bool
+    requires { ⌜ Readable g (now image) ⌝ }
+    requires { ⌜ taken g (front g (now image)) ≤ g .blocks ⌝ }
+    ensures { λ t. ⌜ t ≡ loosely g (front g (now (image .entry))) ⌝ }
+{
+    if !image::rule_a(g, image) {
+        return false;
+    }
+    if !image::rule_b(g, image) {
+        return false;
+    }
+    if !image::rule_c(g, image) {
+        return false;
+    }
+    if !image::all_named(g, image) {
+        return false;
+    }
+    image::rule_e(g, image)
+}
+
+pub fn in_order(g: Geometry, image: &[u8]) -> bool
+    requires { ⌜ Readable g (now image) ⌝ }
+    requires { ⌜ taken g (front g (now image)) ≤ g .blocks ⌝ }
+    ensures { λ t. ⌜ t ≡ inOrder g (front g (now (image .entry))) ⌝ }
+{
+    if !loosely(g, image) {
+        return false;
+    }
+    index::alone_all(g, image)
+}
+
+// 1 to 6.
+pub fn recover_refusal(g: Geometry, image: &[u8], index: &[u8]) -> u8
+    ensures { λ k. ⌜ Recoverable g (now (image .entry)) (now (index .entry)) k ⌝ }
+{
+    let no = desk::early_indexed(g, image, index);
+    if no != 0 {
+        return no;
+    }
+    if !in_order(g, image) {
+        return desk::TABLES;
+    }
+    0
+}
+
+// 1 to 7. The lent index is its own witness that no two blocks name the same pair; only where it bears none are the tables searched.
+pub fn indexed_refusal(g: Geometry, image: &[u8], index: &[u8]) -> u8
+    ensures { λ k. ⌜ InOrder g (now (image .entry)) (now (index .entry)) k ⌝ }
+{
+    let no = desk::early_indexed(g, image, index);
+    if no != 0 {
+        return no;
+    }
+    if !loosely(g, image) {
+        return desk::TABLES;
+    }
+    if index::witnessed(g, image, index) {
+        return 0;
+    }
+    if !index::alone_all(g, image) {
+        return desk::TABLES;
+    }
+    desk::INDEX
+}
+
+// Recover: writes the whole index from the image.
+pub fn recover(g: Geometry, image: &[u8], index: &mut [u8]) -> Answer
+    ensures { λ a. ⌜ gives a [] (lent (now (image .entry)) (now (index .exit))) ≡ outcome g recover (lent (now (image .entry)) (now (index .entry))) ⌝ }
+{
+    let no = recover_refusal(g, image, index);
+    if no != 0 {
+        return Answer::Refused(no);
+    }
+    index::write_index(g, image, index);
+    Answer::Done(0)
+}
