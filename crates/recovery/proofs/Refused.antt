@@ -20,7 +20,7 @@ use Rattle.paper.specs.declared.Answer.the-variants.{Done}
 use Rattle.paper.specs.Outcomes.{lent, gives, accepted, outcome}
 use Rattle.rules.specs.Facts.{Entered}
 use Rattle.rules.proofs.Facts.{ruleA-facts, ruleB-facts, ruleC-facts, ruleE-facts, order-rules}
-use Rattle.rules.proofs.Bytes.{Bytes}
+use Rattle.laws.proofs.Known.{Bytes}
 use Rattle.rules.proofs.First.{first-nil, first-pass, first-halt, pass5, entered-formed, to7, pass7, passed7}
 use Rattle.rules.proofs.Checks.{recover-accepted}
 use Rattle.rules.proofs.Outcomes.{outcome-done}
