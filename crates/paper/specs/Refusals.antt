@@ -139,6 +139,6 @@ module _ (g : Geometry) where
     abbrev pub refusal : Call → ℕ
     refusal c = first (checks c)
 
-    -- an image is well-formed where none of refusals 3 to 6 applies to its recovery
-    unfoldable pub wellFormed : Bool
-    wellFormed = eqb (first (no3 ∷ no4 ∷ no5 ∷ no6 ∷ [])) 0
+  -- an image is well-formed where none of refusals 3 to 6 applies to its recovery, whatever index is lent
+  unfoldable pub wellFormed : List ℕ → Bool
+  wellFormed image = eqb (first (no3 image [] ∷ no4 image [] ∷ no5 image [] ∷ no6 image [] ∷ [])) 0

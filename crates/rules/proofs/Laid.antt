@@ -173,9 +173,9 @@ module _ (g : Geometry) (A : Allowed g) where
       slots = join-ext (g .entries) (blocksOf g (laid g)) (λ r. []) (λ r h. none r) ∙ join-nil (g .entries)
 
   -- ---- a laid image, whatever stands after the front
-  module _ (image index : List ℕ) (long : blockBytes g ≤ length image) where
-    pub laid-wellFormed : wellFormed g (laid g ++ rest g image) index ≡ true
+  module _ (image : List ℕ) (long : blockBytes g ≤ length image) where
+    pub laid-wellFormed : wellFormed g (laid g ++ rest g image) ≡ true
     laid-wellFormed =
         let x = laid g ++ rest g image in
         let l = length-joined g (laid g) image length-laid (omega (arith, A .reserve)) in
-        image-formed g x index A (omega (arith, l)) (rw (front-joined g (laid g) image length-laid) (laid-formed (capacity g (length x))))
+        image-formed g x A (omega (arith, l)) (rw (front-joined g (laid g) image length-laid) (laid-formed (capacity g (length x))))
