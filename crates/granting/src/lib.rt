@@ -1,12 +1,12 @@
 // The tables changed block by block: a block given to a book, a book's blocks given back, a region opened.
 ghost use mathlib.Core.Path.{_≡_};
 ghost use Prim.Native.Nat.{ℕ, _+_, _-_, _*_, _<_};
-ghost use lib.ListN.{length};
 ghost use Rattle.laws.specs.Folds.{steps};
 ghost use Rattle.paper.specs.Image.{front, taken, owner, place, needOf, blockOf, setEntry, setPages};
-ghost use Rattle.paper.specs.Geometry.{reclaimed, indexBytes};
+ghost use Rattle.paper.specs.Geometry.{reclaimed};
 ghost use Rattle.paper.specs.Calls.{granted, grantedNew, grantedReclaimed, lowestNotOpen, nextRegion, opened, released};
 ghost use Rattle.image.specs.Readable.{Readable, fronted};
+ghost use Rattle.index.specs.Witnessed.{Indexed};
 ghost use Rattle.granting.specs.Grant.{Highest, Grantable};
 ghost use Rattle.granting.specs.Steps.{Releasable, reclaiming, raised};
 use paper::Block;
@@ -42,14 +42,14 @@ fn grant_new(g: Geometry, image: &mut [u8], index: &[u8], region: Region)
 
 // The block that the lent index has at region 1's highest position.
 fn highest(g: Geometry, image: &[u8], index: &[u8]) -> Block
-    requires { ⌜ Readable g (now image) × (length (now index) ≡ indexBytes g) ⌝ }
+    requires { ⌜ Readable g (now image) × Indexed g (now index) ⌝ }
     requires { ⌜ 0 < needOf g (front g (now image)) reclaimed ⌝ }
     requires { ⌜ Highest g (front g (now image)) (now index) ⌝ }
     ensures { λ b. ⌜ b .0 ≡ blockOf g (front g (now (image .entry))) reclaimed (needOf g (front g (now (image .entry))) reclaimed - 1) ⌝ }
 {
     let k = image::need(g, image, paper::RECLAIMED) as usize - 1;
-    let start = numbers::read_u16(index, g.start_at(paper::RECLAIMED)) as usize;
-    Block(numbers::read_u16(index, g.slot_at(start + k)))
+    let start = index::start_in(g, index, paper::RECLAIMED) as usize;
+    Block(index::slot_in(g, index, start + k))
 }
 
 // Region 1's highest block, for the region.

@@ -1,7 +1,7 @@
 // The stretches of a book that n bytes from an offset on touch: found in the index, checked, and copied.
 ghost use mathlib.Core.Path.{_≡_};
 ghost use Prim.Native.Nat.{_+_, _*_, _/_, _^_, _<_, min};
-ghost use lib.ListN.{length};
+ghost use lib.ListN.{length, replicate};
 ghost use Rattle.paper.specs.Geometry.{Allowed, indexBytes};
 ghost use Rattle.paper.specs.Image.{front, needOf};
 ghost use Rattle.paper.specs.Index.{startIn, slotIn, blockIn};
@@ -190,5 +190,19 @@ pub fn copy_in(g: Geometry, image: &mut [u8], index: &[u8], r: Region, offset: O
     for p in first..end {
         let s = stretch_at(g, index, start, p, offset, n);
         numbers::copy_part(bytes, s.skip, image, s.at, s.bytes);
+    }
+}
+
+// Zeros into the book: n bytes from the offset on.
+pub fn zero_in(g: Geometry, image: &mut [u8], index: &[u8], r: Region, offset: Offset, n: usize)
+    requires { ⌜ Reads g (now image) (now index) (r .0) (offset .0) n ⌝ }
+    ensures { λ _. ⌜ now (image .exit) ≡ stored g (blockIn g (now (index .entry)) (r .0)) (needOf g (front g (now (image .entry))) (r .0)) (offset .0) (replicate n 0) (now (image .entry)) ⌝ }
+{
+    let start = start_in(g, index, r);
+    let first = first_touched(g, offset);
+    let end = end_touched(g, offset, n);
+    for p in first..end {
+        let s = stretch_at(g, index, start, p, offset, n);
+        numbers::zero_part(image, s.at, s.at + s.bytes);
     }
 }

@@ -16,7 +16,7 @@ need-requires c κs = search needs
 highest-requires : tie.Need-highest-requires
 highest-requires c κs =
     let s = c .before .before .before .before .before in
-    ((s .pre .0, s .pre .1 .0 .long), (s .pre .1 .1, s .pre .1 .0 .again (s .pre .1 .1)))
+    ((s .pre .0, record { allowed = s .pre .0 .allowed; long = s .pre .1 .0 .long }), (s .pre .1 .1, s .pre .1 .0 .again (s .pre .1 .1)))
 
 need-requires-2 : tie.Need-need-requires-2
 need-requires-2 c κs = search needs

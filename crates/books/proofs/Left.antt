@@ -1,0 +1,38 @@
+-- What a call on tables leaves, from the front that it wrote: the index can be written from it, and both are what the paper tells.
+use Prim.Native.Nat.{ℕ, _≤_}
+use mathlib.Core.Bool.{true}
+use mathlib.Core.Logic.{_≢_}
+use mathlib.Core.Path.{_≡_}
+use mathlib.Core.List.{List, []}
+use lib.ListN.{length}
+use Rattle.paper.specs.declared.Geometry.{Geometry}
+use Rattle.paper.specs.declared.Answer.{Answer}
+use Rattle.paper.specs.Image.{front, taken}
+use Rattle.paper.specs.Index.{indexOf}
+use Rattle.paper.specs.Refusals.{usable}
+use Rattle.paper.specs.Outcomes.{lent, gives, tabled}
+use Rattle.rules.specs.Facts.{Rules, Formed, Ordered}
+use Rattle.rules.proofs.Checks.{usable-facts, callable-facts}
+use Rattle.image.specs.Readable.{Readable, fronted}
+use Rattle.granting.specs.Steps.{Releasable}
+use Rattle.granting.proofs.Fronts.{still-readable, front-is}
+
+pub readable : (g : Geometry) (image index : List ℕ) → Ordered g image index → Readable g image
+readable g image index O = record { allowed = O .geometry; long = O .long }
+
+-- a book that may be released
+pub releasable : (g : Geometry) (image index : List ℕ) → Ordered g image index → (r : ℕ) → r ≢ 0 → usable g (front g image) r ≡ true
+    → Releasable g (front g image) r
+releasable g image index O r ne u =
+    let f = usable-facts g (front g image) r u in
+    record { rules = O .formed .rules; bound = O .formed .header .taken-most; opened = f .2; least = callable-facts r (f .0) ne }
+
+module _ (g : Geometry) (cap : ℕ) (image later t : List ℕ) (R : Readable g image) (long : length later ≡ length image)
+    (e : later ≡ fronted g t image) (F : Formed g cap t) where
+  pub writable : Readable g later × (taken g (front g later) ≤ g .blocks) × Rules g (front g later)
+  writable =
+      (still-readable g image later R long, rw (front-is g image later t R long e) (F .header .taken-most), rw (front-is g image later t R long e) (F .rules))
+
+module _ (g : Geometry) (image later t : List ℕ) (R : Readable g image) (long : length later ≡ length image) (e : later ≡ fronted g t image) where
+  pub left-tabled : (a : Answer) (index : List ℕ) → index ≡ indexOf g (front g later) → gives a [] (lent later index) ≡ gives a [] (tabled g t image)
+  left-tabled a index d = rw (d, front-is g image later t R long e, e)

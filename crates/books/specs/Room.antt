@@ -1,0 +1,16 @@
+-- Refusal 10 does not apply: the new blocks do not exceed region 1's blocks plus K - N.
+use Prim.Native.Nat.{ℕ, _+_, _-_}
+use mathlib.Core.Bool.{Bool}
+use mathlib.Core.List.{List}
+use lib.Dec.{leb}
+use lib.ListN.{length}
+use Rattle.paper.specs.declared.Geometry.{Geometry}
+use Rattle.paper.specs.Geometry.{reclaimed, capacity}
+use Rattle.paper.specs.Image.{front, taken, needOf}
+use Rattle.paper.specs.Calls.{newBlocks}
+
+abbrev pub available : Geometry → List ℕ → ℕ
+available g image = needOf g (front g image) reclaimed + (capacity g (length image) - taken g (front g image))
+
+abbrev pub hasRoom : Geometry → List ℕ → ℕ → ℕ → Bool
+hasRoom g image r n = leb (newBlocks g r n (front g image)) (available g image)

@@ -1,0 +1,75 @@
+// The calls that change the tables: open, grow and release.
+ghost use mathlib.Core.Path.{_≡_};
+ghost use mathlib.Core.Bool.{true};
+ghost use mathlib.Core.List.{[]};
+ghost use lib.ListN.{length};
+ghost use Rattle.paper.specs.Geometry.{capacity};
+ghost use Rattle.paper.specs.Image.{front, isOpen};
+ghost use Rattle.paper.specs.Calls.{«open», grow, release};
+ghost use Rattle.paper.specs.Refusals.{first};
+ghost use Rattle.paper.specs.Outcomes.{gives, lent, outcome};
+ghost use Rattle.rules.specs.Facts.{Formed};
+ghost use Rattle.rules.proofs.First.{to7};
+ghost use Rattle.image.specs.Readable.{Readable};
+ghost use Rattle.books.specs.Room.{hasRoom};
+use paper::Answer;
+use paper::Geometry;
+use paper::Pages;
+use paper::Region;
+
+// Whether region 1's blocks and those from N to K are enough for so many pages more. The sum of the pages could wrap: it is held against
+// what the blocks leave.
+fn has_room(g: Geometry, image: &[u8], region: Region, pages: Pages) -> bool
+    requires { ⌜ Readable g (now image) ⌝ }
+    requires { ⌜ Formed g (capacity g (length (now image))) (front g (now image)) ⌝ }
+    requires { ⌜ isOpen g (front g (now image)) (region .0) ≡ true ⌝ }
+    ensures { λ b. ⌜ b ≡ hasRoom g (now (image .entry)) (region .0) (pages .0) ⌝ }
+{
+    let old = image::pages(g, image, region);
+    let spare = image::need(g, image, paper::RECLAIMED);
+    let room = spare + (g.capacity(image.len()) as u64 - image::taken(g, image) as u64);
+    let most = (g.need(old) + room) * g.pages as u64;
+    pages.0 <= most - old.0
+}
+
+fn indexed_refusal(g: Geometry, image: &[u8], index: &[u8]) -> u8
+    ensures { λ k. ⌜ k ≡ first (to7 g (now (image .entry)) (now (index .entry)) []) ⌝ }
+{
+    0
+}
+
+// Open: while C is below E-1, gives C and raises it; then the lowest region from 16 to E-2 that is not open.
+pub fn open(g: Geometry, image: &mut [u8], index: &mut [u8]) -> Answer
+    ensures { λ a. ⌜ gives a [] (lent (now (image .exit)) (now (index .exit))) ≡ outcome g «open» (lent (now (image .entry)) (now (index .entry))) ⌝ }
+{
+    let no = indexed_refusal(g, image, index);
+    if no != 0 {
+        return Answer::Refused(no);
+    }
+    let r = granting::next_region(g, image);
+    if g.no_region() <= r.0 as usize {
+        return Answer::Refused(desk::NO_REGION);
+    }
+    granting::open_tables(g, image, r);
+    index::write_index(g, image, index);
+    Answer::Done(r.0 as u64)
+}
+
+// Release: appends the book's blocks to region 1 in position order, sets "not open".
+pub fn release(g: Geometry, image: &mut [u8], index: &mut [u8], region: Region) -> Answer
+    ensures { λ a. ⌜ gives a [] (lent (now (image .exit)) (now (index .exit))) ≡ outcome g (release (region .0)) (lent (now (image .entry)) (now (index .entry))) ⌝ }
+{
+    let no = indexed_refusal(g, image, index);
+    if no != 0 {
+        return Answer::Refused(no);
+    }
+    if region.0 == 0 {
+        return Answer::Refused(desk::REGION);
+    }
+    if !desk::usable(g, image, region) {
+        return Answer::Refused(desk::REGION);
+    }
+    granting::release_tables(g, image, region);
+    index::write_index(g, image, index);
+    Answer::Done(0)
+}
