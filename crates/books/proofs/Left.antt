@@ -4,13 +4,16 @@ use mathlib.Core.Bool.{true}
 use mathlib.Core.Logic.{_≢_}
 use mathlib.Core.Path.{_≡_}
 use mathlib.Core.List.{List, []}
+use borrow.Author.Tests.{eq-eqb}
 use lib.ListN.{length}
 use Rattle.paper.specs.declared.Geometry.{Geometry}
 use Rattle.paper.specs.declared.Answer.{Answer}
-use Rattle.paper.specs.Image.{front, taken}
+use Rattle.paper.specs.declared.Answer.the-variants.{Done}
+use Rattle.paper.specs.Image.{front, taken, pagesOf}
 use Rattle.paper.specs.Index.{indexOf}
+use Rattle.paper.specs.Calls.{grow, grown}
 use Rattle.paper.specs.Refusals.{usable}
-use Rattle.paper.specs.Outcomes.{lent, gives, tabled}
+use Rattle.paper.specs.Outcomes.{lent, gives, tabled, accepted}
 use Rattle.rules.specs.Facts.{Rules, Formed, Ordered}
 use Rattle.rules.proofs.Checks.{usable-facts, callable-facts}
 use Rattle.image.specs.Readable.{Readable, fronted}
@@ -36,3 +39,9 @@ module _ (g : Geometry) (cap : ℕ) (image later t : List ℕ) (R : Readable g i
 module _ (g : Geometry) (image later t : List ℕ) (R : Readable g image) (long : length later ≡ length image) (e : later ≡ fronted g t image) where
   pub left-tabled : (a : Answer) (index : List ℕ) → index ≡ indexOf g (front g later) → gives a [] (lent later index) ≡ gives a [] (tabled g t image)
   left-tabled a index d = rw (d, front-is g image later t R long e, e)
+
+-- growing by 0 changes nothing
+pub grown-none : (g : Geometry) (image index : List ℕ) → Ordered g image index → (r n : ℕ) → n ≡ 0
+    → gives (Done (pagesOf g (front g image) r)) [] (lent image index) ≡ accepted g (grow r n) (lent image index)
+unfolding accepted grown
+grown-none g image index O r n e = rw (eq-eqb n 0 e, ← O .recovered)

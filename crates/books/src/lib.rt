@@ -2,18 +2,21 @@
 ghost use mathlib.Core.Path.{_≡_};
 ghost use mathlib.Core.Bool.{true};
 ghost use mathlib.Core.List.{[]};
+ghost use Prim.Native.Nat.{_<_};
 ghost use lib.ListN.{length};
 ghost use Rattle.paper.specs.Geometry.{capacity};
-ghost use Rattle.paper.specs.Image.{front, isOpen};
-ghost use Rattle.paper.specs.Calls.{«open», grow, release};
+ghost use Rattle.paper.specs.Image.{front, pagesOf, isOpen};
+ghost use Rattle.paper.specs.Calls.{«open», grow, release, grownFront, grown};
+ghost use Rattle.paper.specs.Index.{indexOf};
 ghost use Rattle.paper.specs.Refusals.{first};
 ghost use Rattle.paper.specs.Outcomes.{gives, lent, outcome};
 ghost use Rattle.rules.specs.Facts.{Formed};
 ghost use Rattle.rules.proofs.First.{to7};
-ghost use Rattle.image.specs.Readable.{Readable};
-ghost use Rattle.books.specs.Room.{hasRoom};
+ghost use Rattle.image.specs.Readable.{Readable, fronted};
+ghost use Rattle.books.specs.Room.{hasRoom, Growing};
 use paper::Answer;
 use paper::Geometry;
+use paper::Offset;
 use paper::Pages;
 use paper::Region;
 
@@ -72,4 +75,51 @@ pub fn release(g: Geometry, image: &mut [u8], index: &mut [u8], region: Region) 
     granting::release_tables(g, image, region);
     index::write_index(g, image, index);
     Answer::Done(0)
+}
+
+// The blocks for so many pages more, and the page count.
+fn grow_tables(g: Geometry, image: &mut [u8], index: &[u8], region: Region, pages: Pages)
+    requires { ⌜ Growing g (now image) (now index) (region .0) (pages .0) ⌝ }
+    ensures { λ _. ⌜ now (image .exit) ≡ fronted g (grownFront g (region .0) (pages .0) (front g (now (image .entry)))) (now (image .entry)) ⌝ }
+{
+    let old = image::pages(g, image, region);
+    let new = Pages(old.0 + pages.0);
+    let more = g.need(new) - g.need(old);
+    granting::grant_blocks(g, image, index, region, more);
+    image::set_pages(g, image, region, new);
+}
+
+// So many pages more: the tables, the index, and zeros in exactly the new pages.
+fn extend(g: Geometry, image: &mut [u8], index: &mut [u8], region: Region, old: Pages, pages: Pages)
+    requires { ⌜ Growing g (now image) (now index) (region .0) (pages .0) ⌝ }
+    requires { ⌜ (old .0 ≡ pagesOf g (front g (now image)) (region .0)) × (0 < pages .0) ⌝ }
+    ensures { λ _. ⌜ (now (image .exit) ≡ grown g (region .0) (pages .0) (now (image .entry))) × (now (index .exit) ≡ indexOf g (front g (grown g (region .0) (pages .0) (now (image .entry))))) ⌝ }
+{
+    grow_tables(g, image, index, region, pages);
+    index::write_index(g, image, index);
+    let page = g.page as u64;
+    let from = Offset(old.0 * page);
+    stretches::zero_in(g, image, index, region, from, (pages.0 * page) as usize);
+}
+
+// Grow by so many pages: answers the old page count.
+pub fn grow(g: Geometry, image: &mut [u8], index: &mut [u8], region: Region, pages: Pages) -> Answer
+    ensures { λ a. ⌜ gives a [] (lent (now (image .exit)) (now (index .exit))) ≡ outcome g (grow (region .0) (pages .0)) (lent (now (image .entry)) (now (index .entry))) ⌝ }
+{
+    let no = indexed_refusal(g, image, index);
+    if no != 0 {
+        return Answer::Refused(no);
+    }
+    if !desk::usable(g, image, region) {
+        return Answer::Refused(desk::REGION);
+    }
+    if !has_room(g, image, region, pages) {
+        return Answer::Refused(desk::NO_ROOM);
+    }
+    let old = image::pages(g, image, region);
+    if pages.0 == 0 {
+        return Answer::Done(old.0);
+    }
+    extend(g, image, index, region, old, pages);
+    Answer::Done(old.0)
 }
