@@ -2,7 +2,7 @@
 ghost use mathlib.Core.Path.{_≡_};
 ghost use mathlib.Core.Bool.{true};
 ghost use mathlib.Core.List.{[]};
-ghost use Prim.Native.Nat.{_<_};
+ghost use Prim.Native.Nat.{_*_, _^_, _<_};
 ghost use lib.ListN.{length};
 ghost use Rattle.paper.specs.Geometry.{capacity};
 ghost use Rattle.paper.specs.Image.{front, pagesOf, isOpen};
@@ -13,6 +13,7 @@ ghost use Rattle.paper.specs.Outcomes.{gives, lent, outcome};
 ghost use Rattle.rules.specs.Facts.{Formed};
 ghost use Rattle.rules.proofs.First.{to7};
 ghost use Rattle.image.specs.Readable.{Readable, fronted};
+ghost use Rattle.index.specs.Witnessed.{Indexed};
 ghost use Rattle.books.specs.Room.{hasRoom, Growing};
 use paper::Answer;
 use paper::Geometry;
@@ -41,6 +42,15 @@ fn indexed_refusal(g: Geometry, image: &[u8], index: &[u8]) -> u8
     0
 }
 
+// After an accepted open, grow or release the index is what recover would then write.
+fn index_anew(g: Geometry, image: &[u8], index: &mut [u8])
+    requires { ⌜ Readable g (now image) × Indexed g (now index) ⌝ }
+    requires { ⌜ Formed g (capacity g (length (now image))) (front g (now image)) ⌝ }
+    ensures { λ _. ⌜ now (index .exit) ≡ indexOf g (front g (now (image .entry))) ⌝ }
+{
+    index::write_index(g, image, index);
+}
+
 // Open: while C is below E-1, gives C and raises it; then the lowest region from 16 to E-2 that is not open.
 pub fn open(g: Geometry, image: &mut [u8], index: &mut [u8]) -> Answer
     ensures { λ a. ⌜ gives a [] (lent (now (image .exit)) (now (index .exit))) ≡ outcome g «open» (lent (now (image .entry)) (now (index .entry))) ⌝ }
@@ -54,7 +64,7 @@ pub fn open(g: Geometry, image: &mut [u8], index: &mut [u8]) -> Answer
         return Answer::Refused(desk::NO_REGION);
     }
     granting::open_tables(g, image, r);
-    index::write_index(g, image, index);
+    index_anew(g, image, index);
     Answer::Done(r.0 as u64)
 }
 
@@ -73,7 +83,7 @@ pub fn release(g: Geometry, image: &mut [u8], index: &mut [u8], region: Region) 
         return Answer::Refused(desk::REGION);
     }
     granting::release_tables(g, image, region);
-    index::write_index(g, image, index);
+    index_anew(g, image, index);
     Answer::Done(0)
 }
 
@@ -89,6 +99,14 @@ fn grow_tables(g: Geometry, image: &mut [u8], index: &[u8], region: Region, page
     image::set_pages(g, image, region, new);
 }
 
+// The first byte of the new pages. It may lie in a block that the book holds already, whose bytes are then another book's old ones.
+fn first_new(g: Geometry, old: Pages) -> Offset
+    requires { ⌜ old .0 * g .page < 2 ^ 64 ⌝ }
+    ensures { λ o. ⌜ o .0 ≡ old .0 * g .page ⌝ }
+{
+    Offset(old.0 * g.page as u64)
+}
+
 // So many pages more: the tables, the index, and zeros in exactly the new pages.
 fn extend(g: Geometry, image: &mut [u8], index: &mut [u8], region: Region, old: Pages, pages: Pages)
     requires { ⌜ Growing g (now image) (now index) (region .0) (pages .0) ⌝ }
@@ -96,10 +114,9 @@ fn extend(g: Geometry, image: &mut [u8], index: &mut [u8], region: Region, old: 
     ensures { λ _. ⌜ (now (image .exit) ≡ grown g (region .0) (pages .0) (now (image .entry))) × (now (index .exit) ≡ indexOf g (front g (grown g (region .0) (pages .0) (now (image .entry))))) ⌝ }
 {
     grow_tables(g, image, index, region, pages);
-    index::write_index(g, image, index);
-    let page = g.page as u64;
-    let from = Offset(old.0 * page);
-    stretches::zero_in(g, image, index, region, from, (pages.0 * page) as usize);
+    index_anew(g, image, index);
+    let n = pages.0 * g.page as u64;
+    stretches::zero_in(g, image, index, region, first_new(g, old), n as usize);
 }
 
 // Grow by so many pages: answers the old page count.

@@ -27,17 +27,24 @@ fn give(g: Geometry, image: &mut [u8], region: Region, b: Block, place: u64)
     image::set_pages(g, image, region, Pages(n));
 }
 
-// Block N, for the region.
-fn grant_new(g: Geometry, image: &mut [u8], index: &[u8], region: Region)
+// The block that is taken next: by N, and not by the image's length.
+fn next_block(g: Geometry, image: &[u8]) -> Block
     requires { ⌜ Readable g (now image) ⌝ }
-    requires { ⌜ Grantable g (front g (now image)) (now index) (region .0) ⌝ }
-    requires { ⌜ needOf g (front g (now image)) reclaimed ≡ 0 ⌝ }
+    ensures { λ b. ⌜ b .0 ≡ taken g (front g (now (image .entry))) ⌝ }
+{
+    Block(image::taken(g, image))
+}
+
+// Block N, for the region.
+fn grant_new(g: Geometry, image: &mut [u8], region: Region)
+    requires { ⌜ Readable g (now image) ⌝ }
+    requires { ⌜ (region .0 < g .entries) × (needOf g (front g (now image)) (region .0) < g .blocks) × (taken g (front g (now image)) < g .blocks) ⌝ }
     ensures { λ _. ⌜ now (image .exit) ≡ fronted g (grantedNew g (region .0) (front g (now (image .entry)))) (now (image .entry)) ⌝ }
 {
     let place = image::need(g, image, region);
-    let n = image::taken(g, image);
-    image::set_taken(g, image, n + 1);
-    give(g, image, region, Block(n), place);
+    let b = next_block(g, image);
+    image::set_taken(g, image, b.0 + 1);
+    give(g, image, region, b, place);
 }
 
 // The block that the lent index has at region 1's highest position.
@@ -74,7 +81,7 @@ fn grant(g: Geometry, image: &mut [u8], index: &[u8], region: Region)
     ensures { λ _. ⌜ now (image .exit) ≡ fronted g (granted g (region .0) (front g (now (image .entry)))) (now (image .entry)) ⌝ }
 {
     if image::need(g, image, paper::RECLAIMED) == 0 {
-        grant_new(g, image, index, region);
+        grant_new(g, image, region);
     } else {
         grant_reclaimed(g, image, index, region);
     }

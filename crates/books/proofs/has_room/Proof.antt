@@ -2,10 +2,11 @@
 use Prim.Native.Nat.{_+_, _-_, _≤_}
 use mathlib.Core.Path.{_∙_}
 use lib.ListN.{length}
+use Rattle.paper.specs.Geometry.{need}
 use Rattle.paper.specs.Image.{front}
 use Rattle.paper.proofs.Counting.{capacity-blocks}
 use Rattle.rules.proofs.Facts.{open-below}
-use Rattle.books.proofs.Room.{holds-old, room-is, book-blocks, spare-blocks, product-small}
+use Rattle.books.proofs.Room.{holds-old, room-is, room-small, product-small}
 use native.Mathlib.Omega.{arith}
 use borrow.Author.Needs.{needs}
 use Rattle.books.proofs.has_room.Statement.{statement}
@@ -44,14 +45,19 @@ cast-room c = search needs
 sub-room : tie.Need-sub-room
 sub-room c = search needs
 
--- src/lib.rt:24:16
-add-room : tie.Need-add-room
-add-room c =
+-- the blocks are few
+small : (c : tie.After-taken)
+    → need (c .before .before .before .before .before .args .g) (c .before .before .before .pages .result .0) + (c .before .before .need .result + (c .before .capacity .result - c .taken .result)) ≤ 98304
+small c =
     let s = c .before .before .before .before .before in
     let g = s .args .g in
-    let F = s .pre .1 .0 in
-    let spare = spare-blocks g (s .pre .0 .allowed) (front g (s .args .image .now)) (F .header .taken-most) (F .rules) in
-    record { fits = omega (arith, spare, c .before .before .need .ensures, c .before .capacity .ensures, capacity-blocks g (length (s .args .image .now)), s .pre .0 .allowed .blocks-most) }
+    let i = s .args .image .now in
+    rw (c .before .before .before .pages .ensures, c .before .before .need .ensures, c .before .capacity .ensures, c .taken .ensures)
+    (room-small g (s .pre .0 .allowed) _ (capacity-blocks g (length i)) (front g i) (s .pre .1 .0) (s .args .region .0) (s .pre .1 .1))
+
+-- src/lib.rt:24:16
+add-room : tie.Need-add-room
+add-room c = record { fits = omega (arith, small c) }
 
 -- src/lib.rt:25:17
 need-requires-2 : tie.Need-need-requires-2
@@ -59,27 +65,14 @@ need-requires-2 c κs = search needs
 
 -- src/lib.rt:25:17
 add-most : tie.Need-add-most
-add-most c =
-    let s = c .before .before .before .before .before .before in
-    let g = s .args .g in
-    let F = s .pre .1 .0 in
-    let t = front g (s .args .image .now) in
-    let spare = spare-blocks g (s .pre .0 .allowed) t (F .header .taken-most) (F .rules) in
-    let book = book-blocks g (s .pre .0 .allowed) t (F .header .taken-most) (F .rules) (s .args .region .0) (s .pre .1 .1) in
-    record { fits = omega (arith, spare, rw (← c .before .before .before .before .pages .ensures) at book, c .need2 .ensures, c .before .before .before .need .ensures, c .before .before .capacity .ensures, capacity-blocks g (length (s .args .image .now)), s .pre .0 .allowed .blocks-most) }
+add-most c = record { fits = omega (arith, small (c .before), c .need2 .ensures) }
 
 -- src/lib.rt:25:16
 mul-most : tie.Need-mul-most
 mul-most c =
     let s = c .before .before .before .before .before .before in
-    let g = s .args .g in
-    let F = s .pre .1 .0 in
-    let t = front g (s .args .image .now) in
-    let spare = spare-blocks g (s .pre .0 .allowed) t (F .header .taken-most) (F .rules) in
-    let book = book-blocks g (s .pre .0 .allowed) t (F .header .taken-most) (F .rules) (s .args .region .0) (s .pre .1 .1) in
-    let small : c .need2 .result + (c .before .before .before .need .result + (c .before .before .capacity .result - c .before .taken .result)) ≤ 98304
-    = omega (arith, spare, rw (← c .before .before .before .before .pages .ensures) at book, c .need2 .ensures, c .before .before .before .need .ensures, c .before .before .capacity .ensures, capacity-blocks g (length (s .args .image .now)), s .pre .0 .allowed .blocks-most) in
-    record { fits = omega (arith, product-small g (s .pre .0 .allowed) (c .need2 .result + (c .before .before .before .need .result + (c .before .before .capacity .result - c .before .taken .result))) small) }
+    let k = c .need2 .result + (c .before .before .before .need .result + (c .before .before .capacity .result - c .before .taken .result)) in
+    record { fits = omega (arith, product-small (s .args .g) (s .pre .0 .allowed) k (omega (arith, small (c .before), c .need2 .ensures))) }
 
 -- src/lib.rt:26:16
 sub-result : tie.Need-sub-result

@@ -13,7 +13,9 @@ need-requires : tie.Need-need-requires
 need-requires c κs = search needs
 
 grant-new-requires : tie.Need-grant-new-requires
-grant-new-requires c κs = search needs
+grant-new-requires c κs =
+    let s = c .before .before .before .before .before .before in
+    (s .pre .0, (s .pre .1 .inside, s .pre .1 .next, s .pre .1 .new (sym (c .before .before .need .ensures) ∙ c .before .if1 .taken)))
 
 grant-reclaimed-requires : tie.Need-grant-reclaimed-requires
 grant-reclaimed-requires c κs =
