@@ -98,7 +98,16 @@ pub fn grant_blocks(g: Geometry, image: &mut [u8], index: &[u8], region: Region,
     }
 }
 
-// Block b to region 1, where it is the region's: after the `spare` blocks that are there, by its position.
+// Block b's position in region 1: after the `spare` blocks that are there, in position order and not in block order.
+fn spare_place(g: Geometry, image: &[u8], spare: u16, b: Block) -> u16
+    requires { ⌜ Readable g (now image) ⌝ }
+    requires { ⌜ (b .0 < g .blocks) × (spare + place g (front g (now image)) (b .0) < g .blocks) ⌝ }
+    ensures { λ p. ⌜ p ≡ spare + place g (front g (now (image .entry))) (b .0) ⌝ }
+{
+    spare + image::place(g, image, b)
+}
+
+// Block b to region 1, where it is the region's.
 fn reclaim(g: Geometry, image: &mut [u8], region: Region, spare: u16, b: Block)
     requires { ⌜ Readable g (now image) ⌝ }
     requires { ⌜ b .0 < g .blocks ⌝ }
@@ -108,8 +117,8 @@ fn reclaim(g: Geometry, image: &mut [u8], region: Region, spare: u16, b: Block)
     if image::owner(g, image, b).0 != region.0 {
         return;
     }
-    let p = image::place(g, image, b);
-    image::set_entry(g, image, b, paper::RECLAIMED.0 as u16, spare + p);
+    let p = spare_place(g, image, spare, b);
+    image::set_entry(g, image, b, paper::RECLAIMED.0 as u16, p);
 }
 
 // All blocks of the region to region 1.

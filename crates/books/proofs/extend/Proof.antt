@@ -10,18 +10,10 @@ use native.Mathlib.Omega.{arith}
 use borrow.Author.Needs.{needs}
 use Rattle.books.proofs.extend.Statement.{statement}
 use Rattle.books.proofs.extend.Tie as tie
-use Rattle.books.proofs.extend.Reads as reads
-use Rattle.books.proofs.extend.Lts as lts
-use Rattle.books.proofs.first_new.Reads as first-new-reads
-use Rattle.books.proofs.grow_tables.Reads as grow-tables-reads
-use Rattle.books.proofs.index_anew.Reads as index-anew-reads
-use Rattle.stretches.proofs.zero_in.Reads as zero-in-reads
 
--- src/lib.rt:116:5
 grow-tables-requires : tie.Need-grow-tables-requires
 grow-tables-requires c κs = search needs
 
--- src/lib.rt:117:5
 index-anew-requires : tie.Need-index-anew-requires
 index-anew-requires c κs =
     let s = c .before .before .before .before .before .before .before .before .before in
@@ -35,7 +27,6 @@ index-anew-requires c κs =
     let w = c .before .before .before .before .grow-tables in
     writable g i x (w .last .1 .0) (grownFront g r n (front g i)) (W .ordered) (w .kept .1 .0) (w .ensures) (grows g i x r n W .formed)
 
--- src/lib.rt:118:13
 mul-n : tie.Need-mul-n
 mul-n c =
     let s = c .before .before .before .before .before .before .before .before .before .before .before .before .before in
@@ -43,7 +34,6 @@ mul-n c =
     let h = pages-most (a .g) (a .image .now) (a .index .now) (a .region .0) (a .pages .0) (s .pre .0) in
     record { fits = omega (arith, book-bytes-bound (a .g) (a .pages .0) (s .pre .0 .ordered .geometry) (omega arith)) }
 
--- src/lib.rt:119:49
 first-new-requires : tie.Need-first-new-requires
 first-new-requires c κs =
     let s = c .before .before .before .before .before .before .before .before .before .before .before .before .before .before .before in
@@ -51,7 +41,6 @@ first-new-requires c κs =
     let h = pages-most (a .g) (a .image .now) (a .index .now) (a .region .0) (a .pages .0) (s .pre .0) in
     omega (arith, book-bytes-bound (a .g) (a .old .0) (s .pre .0 .ordered .geometry) (omega (arith, s .pre .1 .0)))
 
--- src/lib.rt:119:5
 zero-in-requires : tie.Need-zero-in-requires
 zero-in-requires c κs =
     let s = c .before .before .before .before .before .before .before .before .before .before .before .before .before .before .before .before in
@@ -61,15 +50,12 @@ zero-in-requires c κs =
     rw (c .first-new .ensures, s .pre .1 .0)
     (new-pages (a .g) (a .image .now) (a .index .now) (a .region .0) (a .pages .0) (s .pre .0) (w .last .1 .0) (v .last .1 .1 .0) (w .kept .1 .0) (w .ensures) (v .ensures))
 
--- src/lib.rt:111:1
 same-length : tie.Need-same-length
 same-length c = search needs
 
--- src/lib.rt:111:1
 same-length-2 : tie.Need-same-length-2
 same-length-2 c = search needs
 
--- src/lib.rt:111:1
 returns : tie.Need-returns
 returns c =
     let s = c .before .before .before .before .before .before .before .before .before .before .before .before .before .before .before .before .before .before .before in
@@ -84,7 +70,7 @@ returns c =
     let v = c .before .before .before .before .before .before .before .before .before .index-anew in
     let from = c .before .before .before .first-new .ensures ∙ ap (λ k. k * g .page) (s .pre .1 .0) in (
       (rw from at (c .before .before .zero-in .ensures))
-      ∙ zeroed g i x r n W (w .last .1 .0) (v .last .1 .1 .0) (w .kept .1 .0) (w .ensures) (v .ensures) (s .pre .1 .1),
+          ∙ zeroed g i x r n W (w .last .1 .0) (v .last .1 .1 .0) (w .kept .1 .0) (w .ensures) (v .ensures) (s .pre .1 .1),
       v .ensures ∙ front-grown g i x r n W (w .last .1 .0) (v .last .1 .1 .0) (w .kept .1 .0) (w .ensures) (v .ensures) (s .pre .1 .1),
     )
 

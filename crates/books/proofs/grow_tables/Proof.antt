@@ -13,36 +13,25 @@ use native.Mathlib.Omega.{arith}
 use borrow.Author.Needs.{needs}
 use Rattle.books.proofs.grow_tables.Statement.{statement}
 use Rattle.books.proofs.grow_tables.Tie as tie
-use Rattle.books.proofs.grow_tables.Reads as reads
-use Rattle.books.proofs.grow_tables.Lts as lts
-use Rattle.granting.proofs.grant_blocks.Reads as grant-blocks-reads
-use Rattle.image.proofs.pages.Reads as pages-reads
-use Rattle.image.proofs.set_pages.Reads as set-pages-reads
-use Rattle.paper.proofs.Geometry.need.Reads as need-reads
 
--- src/lib.rt:85:9
 pages-requires : tie.Need-pages-requires
 pages-requires c κs =
     let s = c .before .before .before in
     let a = s .args in
     (readable (a .g) (a .image .now) (a .index .now) (s .pre .ordered), inside (a .g) (a .image .now) (a .index .now) (a .region .0) (a .pages .0) (s .pre))
 
--- src/lib.rt:86:21
 add-more : tie.Need-add-more
 add-more c =
     let s = c .before .before .before .before .before .before in
     let a = s .args in
     record { fits = omega (arith, c .before .before .pages .ensures, pages-most (a .g) (a .image .now) (a .index .now) (a .region .0) (a .pages .0) (s .pre), book-pages-bound (a .g) (s .pre .ordered .geometry)) }
 
--- src/lib.rt:87:16
 need-requires : tie.Need-need-requires
 need-requires c κs = search needs
 
--- src/lib.rt:87:30
 need-requires-2 : tie.Need-need-requires-2
 need-requires-2 c κs = search needs
 
--- src/lib.rt:87:16
 sub-more : tie.Need-sub-more
 sub-more c =
     let s = c .before .before .before .before .before .before .before .before in
@@ -52,15 +41,14 @@ sub-more c =
     = rw old (need-up (a .g) (a .image .now) (a .index .now) (a .region .0) (a .pages .0) (s .pre)) in
     omega (arith, c .need2 .ensures, c .before .need .ensures)
 
--- src/lib.rt:88:5
 grant-blocks-requires : tie.Need-grant-blocks-requires
 grant-blocks-requires c κs =
     let s = c .before .before .before .before .before .before .before .before .before in
-    let a = s .args in
-    (readable (a .g) (a .image .now) (a .index .now) (s .pre .ordered),
-    λ i h. each-grantable (a .g) (a .image .now) (a .index .now) (a .region .0) (a .pages .0) (s .pre) i (rw (c .before .before .need .ensures, c .before .need2 .ensures, c .before .before .before .before .before .pages .ensures) at h))
+    let a = s .args in (
+      readable (a .g) (a .image .now) (a .index .now) (s .pre .ordered),
+      λ i h. each-grantable (a .g) (a .image .now) (a .index .now) (a .region .0) (a .pages .0) (s .pre) i (rw (c .before .before .need .ensures, c .before .need2 .ensures, c .before .before .before .before .before .pages .ensures) at h),
+    )
 
--- src/lib.rt:89:5
 set-pages-requires : tie.Need-set-pages-requires
 set-pages-requires c κs =
     let s = c .before .before .before .before .before .before .before .before .before .before .before .before .before in
@@ -68,11 +56,9 @@ set-pages-requires c κs =
     let w = c .before .before .before .grant-blocks in
     (still-readable (a .g) (a .image .now) (w .last .1 .0) (readable (a .g) (a .image .now) (a .index .now) (s .pre .ordered)) (w .kept .1 .0), inside (a .g) (a .image .now) (a .index .now) (a .region .0) (a .pages .0) (s .pre))
 
--- src/lib.rt:81:1
 same-length : tie.Need-same-length
 same-length c = search needs
 
--- src/lib.rt:81:1
 returns : tie.Need-returns
 unfolding grownFront
 returns c =

@@ -2,10 +2,7 @@ use native.Mathlib.Omega.{arith}
 use borrow.Author.Needs.{needs}
 use Rattle.books.proofs.indexed_refusal.Statement.{statement}
 use Rattle.books.proofs.indexed_refusal.Tie as tie
-use Rattle.books.proofs.indexed_refusal.Reads as reads
-use Rattle.books.proofs.indexed_refusal.Lts as lts
 
--- src/lib.rt:37:1
 returns : tie.Need-returns
 returns c = ?
 

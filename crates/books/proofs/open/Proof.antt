@@ -18,27 +18,16 @@ use native.Mathlib.Omega.{arith}
 use borrow.Author.Needs.{needs}
 use Rattle.books.proofs.open.Statement.{statement}
 use Rattle.books.proofs.open.Tie as tie
-use Rattle.books.proofs.open.Reads as reads
-use Rattle.books.proofs.open.Lts as lts
-use Rattle.books.proofs.index_anew.Reads as index-anew-reads
-use Rattle.books.proofs.indexed_refusal.Reads as indexed-refusal-reads
-use Rattle.granting.proofs.next_region.Reads as next-region-reads
-use Rattle.granting.proofs.open_tables.Reads as open-tables-reads
-use Rattle.paper.proofs.Geometry.no_region.Reads as no-region-reads
 
--- src/lib.rt:58:9
 indexed-refusal-requires : tie.Need-indexed-refusal-requires
 indexed-refusal-requires c κs = search needs
 
--- src/lib.rt:60:9
 same-length : tie.Need-same-length
 same-length c = search needs
 
--- src/lib.rt:60:9
 same-length-2 : tie.Need-same-length-2
 same-length-2 c = search needs
 
--- src/lib.rt:60:9
 returns : tie.Need-returns
 unfolding buffer
 returns c =
@@ -57,29 +46,23 @@ ordered c = let a = c .before .before .before .before .before .before .args in
 some : (c : tie.Else2) → nextRegion (c .before .before .before .before .before .before .before .before .before .before .before .args .g) (front (c .before .before .before .before .before .before .before .before .before .before .before .args .g) (c .before .before .before .before .before .before .before .before .before .before .before .args .image .now)) < noRegion (c .before .before .before .before .before .before .before .before .before .before .before .args .g)
 some c = omega (arith, c .before .before .before .next-region .ensures, c .before .before .no-region .ensures, c .if2 .left)
 
--- src/lib.rt:62:9
 next-region-requires : tie.Need-next-region-requires
 next-region-requires c κs =
     let a = c .before .before .before .before .before .before .before .args in
     readable (a .g) (a .image .now) (a .index .now) (ordered (c .before))
 
--- src/lib.rt:63:8
 no-region-requires : tie.Need-no-region-requires
 no-region-requires c κs = ordered (c .before .before) .geometry
 
--- src/lib.rt:63:25
 cast-if2 : tie.Need-cast-if2
 cast-if2 c = search needs
 
--- src/lib.rt:64:9
 same-length-3 : tie.Need-same-length-3
 same-length-3 c = search needs
 
--- src/lib.rt:64:9
 same-length-4 : tie.Need-same-length-4
 same-length-4 c = search needs
 
--- src/lib.rt:64:9
 returns-2 : tie.Need-returns-2
 unfolding buffer
 returns-2 c =
@@ -90,13 +73,11 @@ returns-2 c =
     let none = open-none g i x (omega (arith, c .before .before .before .next-region .ensures, c .before .before .no-region .ensures, c .if2 .taken)) in
     refused-late g i x «open» (no11 g i x ∷ []) (open-line g i x) refl (ordered (c .before .before .before .before .before)) 11 none (omega arith)
 
--- src/lib.rt:66:5
 open-tables-requires : tie.Need-open-tables-requires
 open-tables-requires c κs =
     let a = c .before .before .before .before .before .before .before .before .before .before .before .before .args in
     (readable (a .g) (a .image .now) (a .index .now) (ordered (c .before .before .before .before .before .before)), (c .before .before .before .before .next-region .ensures, omega (arith, c .before .before .before .no-region .ensures, c .before .if2 .left)))
 
--- src/lib.rt:67:5
 index-anew-requires : tie.Need-index-anew-requires
 index-anew-requires c κs =
     let a = c .before .before .before .before .before .before .before .before .before .before .before .before .before .before .before .before .before .args in
@@ -107,19 +88,15 @@ index-anew-requires c κs =
     writable g i (a .index .now) (w .last .1 .0) (opened g (front g i)) O (w .kept .1 .0) (w .ensures)
     (open-next g (O .geometry) (capacity g (length i)) (front g i) (O .formed) (some (c .before .before .before .before .before .before)) .formed)
 
--- src/lib.rt:68:18
 cast-t22 : tie.Need-cast-t22
 cast-t22 c = search needs
 
--- src/lib.rt:55:1
 same-length-5 : tie.Need-same-length-5
 same-length-5 c = search needs
 
--- src/lib.rt:55:1
 same-length-6 : tie.Need-same-length-6
 same-length-6 c = search needs
 
--- src/lib.rt:55:1
 returns-3 : tie.Need-returns-3
 unfolding accepted buffer
 returns-3 c =

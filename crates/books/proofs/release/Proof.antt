@@ -19,26 +19,16 @@ use native.Mathlib.Omega.{arith}
 use borrow.Author.Needs.{needs}
 use Rattle.books.proofs.release.Statement.{statement}
 use Rattle.books.proofs.release.Tie as tie
-use Rattle.books.proofs.release.Reads as reads
-use Rattle.books.proofs.release.Lts as lts
-use Rattle.books.proofs.index_anew.Reads as index-anew-reads
-use Rattle.books.proofs.indexed_refusal.Reads as indexed-refusal-reads
-use Rattle.desk.proofs.usable.Reads as usable-reads
-use Rattle.granting.proofs.release_tables.Reads as release-tables-reads
 
--- src/lib.rt:75:9
 indexed-refusal-requires : tie.Need-indexed-refusal-requires
 indexed-refusal-requires c κs = search needs
 
--- src/lib.rt:77:9
 same-length : tie.Need-same-length
 same-length c = search needs
 
--- src/lib.rt:77:9
 same-length-2 : tie.Need-same-length-2
 same-length-2 c = search needs
 
--- src/lib.rt:77:9
 returns : tie.Need-returns
 unfolding buffer
 returns c =
@@ -49,11 +39,9 @@ returns c =
     let r = a .region .0 in
     refused-early g i x (release r) (no8release g i x r ∷ []) (release-line g i x r) refl (c .before .indexed-refusal .result) (c .before .indexed-refusal .ensures) (c .if1 .taken)
 
--- src/lib.rt:80:9
 same-length-3 : tie.Need-same-length-3
 same-length-3 c = search needs
 
--- src/lib.rt:80:9
 same-length-4 : tie.Need-same-length-4
 same-length-4 c = search needs
 
@@ -62,7 +50,6 @@ ordered : (c : tie.Else1) → Ordered (c .before .before .before .before .before
 ordered c = let a = c .before .before .before .before .before .before .args in
     passed7 (a .g) (a .image .now) (a .index .now) [] (sym (c .before .indexed-refusal .ensures) ∙ c .if1 .left) .0
 
--- src/lib.rt:80:9
 returns-2 : tie.Need-returns-2
 unfolding buffer
 returns-2 c =
@@ -73,21 +60,17 @@ returns-2 c =
     let r = a .region .0 in
     refused-late g i x (release r) (no8release g i x r ∷ []) (release-line g i x r) refl (ordered (c .before .before)) 8 (release-zero g i x r (c .if2 .taken)) (omega arith)
 
--- src/lib.rt:82:9
 usable-requires : tie.Need-usable-requires
 usable-requires c κs =
     let a = c .before .before .before .before .before .before .before .before .before .args in
     readable (a .g) (a .image .now) (a .index .now) (ordered (c .before .before .before))
 
--- src/lib.rt:83:9
 same-length-5 : tie.Need-same-length-5
 same-length-5 c = search needs
 
--- src/lib.rt:83:9
 same-length-6 : tie.Need-same-length-6
 same-length-6 c = search needs
 
--- src/lib.rt:83:9
 returns-3 : tie.Need-returns-3
 unfolding buffer
 returns-3 c =
@@ -103,14 +86,12 @@ returns-3 c =
 may : (c : tie.Else3) → usable (c .before .before .before .before .before .before .before .before .before .before .before .args .g) (front (c .before .before .before .before .before .before .before .before .before .before .before .args .g) (c .before .before .before .before .before .before .before .before .before .before .before .args .image .now)) (c .before .before .before .before .before .before .before .before .before .before .before .args .region .0) ≡ true
 may c = sym (c .before .usable .ensures) ∙ not-false _ (c .if3 .left)
 
--- src/lib.rt:85:5
 release-tables-requires : tie.Need-release-tables-requires
 release-tables-requires c κs =
     let a = c .before .before .before .before .before .before .before .before .before .before .before .before .args in
     let O = ordered (c .before .before .before .before .before .before) in
     (readable (a .g) (a .image .now) (a .index .now) O, releasable (a .g) (a .image .now) (a .index .now) O (a .region .0) (c .before .before .before .before .if2 .left) (may (c .before)))
 
--- src/lib.rt:86:5
 index-anew-requires : tie.Need-index-anew-requires
 index-anew-requires c κs =
     let a = c .before .before .before .before .before .before .before .before .before .before .before .before .before .before .before .before .before .args in
@@ -124,15 +105,12 @@ index-anew-requires c κs =
     writable g i x (w .last .1 .0) (released g r (front g i)) O (w .kept .1 .0) (w .ensures)
     (released-as g (O .geometry) (capacity g (length i)) (front g i) (O .formed) r (M .opened) (M .least) .formed)
 
--- src/lib.rt:72:1
 same-length-7 : tie.Need-same-length-7
 same-length-7 c = search needs
 
--- src/lib.rt:72:1
 same-length-8 : tie.Need-same-length-8
 same-length-8 c = search needs
 
--- src/lib.rt:72:1
 returns-4 : tie.Need-returns-4
 unfolding accepted buffer
 returns-4 c =

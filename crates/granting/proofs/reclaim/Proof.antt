@@ -19,16 +19,13 @@ returns c =
     let a = c .before .before .before .before .before .before .args in
     rw (ne-eqb (owner (a .g) (front (a .g) (a .image .now)) (a .b .0)) (a .region .0) (λ z. c .if1 .taken (c .before .before .before .owner .ensures ∙ z))) (unchanged (a .g) (a .image .now))
 
-place-requires : tie.Need-place-requires
-place-requires c κs = search needs
+spare-place-requires : tie.Need-spare-place-requires
+spare-place-requires c κs =
+    let s = c .before .before .before .before .before .before .before in
+    (s .pre .0, (s .pre .1 .0, s .pre .1 .1 (sym (c .before .before .before .before .owner .ensures) ∙ c .before .if1 .left)))
 
 cast-set-entry : tie.Need-cast-set-entry
 cast-set-entry c = search needs
-
-add-set-entry : tie.Need-add-set-entry
-add-set-entry c =
-    let s = c .before .before .before .before .before .before .before .before .before .before in
-    record { fits = omega (arith, c .before .before .place .ensures, s .pre .1 .1 (sym (c .before .before .before .before .before .before .before .owner .ensures) ∙ c .before .before .before .before .if1 .left), s .pre .0 .allowed .blocks-most) }
 
 set-entry-requires : tie.Need-set-entry-requires
 set-entry-requires c κs = search needs
@@ -39,7 +36,7 @@ same-length-2 c = search needs
 returns-2 : tie.Need-returns-2
 returns-2 c =
     let a = c .before .before .before .before .before .before .before .before .before .before .before .before .before .args in
-    rw (eq-eqb (owner (a .g) (front (a .g) (a .image .now)) (a .b .0)) (a .region .0) (sym (c .before .before .before .before .before .before .before .before .before .before .owner .ensures) ∙ c .before .before .before .before .before .before .before .if1 .left), ← c .before .before .before .before .before .place .ensures) (c .before .before .set-entry .ensures)
+    rw (eq-eqb (owner (a .g) (front (a .g) (a .image .now)) (a .b .0)) (a .region .0) (sym (c .before .before .before .before .before .before .before .before .before .before .owner .ensures) ∙ c .before .before .before .before .before .before .before .if1 .left), ← c .before .before .before .before .before .spare-place .ensures) (c .before .before .set-entry .ensures)
 
 pub reclaim-spec : {M : Type 1} → statement M
 reclaim-spec =
@@ -48,9 +45,8 @@ reclaim-spec =
     owner-requires
     same-length
     returns
-    place-requires
+    spare-place-requires
     cast-set-entry
-    add-set-entry
     set-entry-requires
     same-length-2
     returns-2)
