@@ -16,7 +16,7 @@ use Rattle.paper.specs.Image.{front, rest, taken, pagesOf, isOpen, needOf, bloc
 use Rattle.paper.specs.Index.{indexOf, startIn, blockIn}
 use Rattle.paper.specs.Calls.{granted, newBlocks, grownFront, grown, stored}
 use Rattle.paper.specs.Refusals.{usable, rightAt, touched, touchedRight}
-use Rattle.paper.proofs.Counting.{capacity-blocks}
+use Rattle.paper.proofs.Counting.{capacity-blocks, need-mono}
 use Rattle.rules.specs.Facts.{Rules, Formed, Entered, Ordered, Reads, callable}
 use Rattle.rules.proofs.Facts.{open-below, need-open}
 use Rattle.rules.proofs.Counting.{block-below, block-owner, block-place}
@@ -24,7 +24,7 @@ use Rattle.rules.proofs.Index.{length-index, block-read, slot-fits}
 use Rattle.rules.proofs.Checks.{usable-facts, open-usable}
 use Rattle.rules.proofs.Touched.{touched-below}
 use Rattle.keeping.proofs.Stored.{stored-ext}
-use Rattle.keeping.proofs.Grow.{GrownTo, grownFront-to, need-mono}
+use Rattle.keeping.proofs.Grow.{GrownTo, grownFront-to}
 use Rattle.keeping.proofs.Growth.{grown-front}
 use Rattle.image.specs.Readable.{Readable, fronted}
 use Rattle.granting.specs.Grant.{Grantable}

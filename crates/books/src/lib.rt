@@ -8,10 +8,8 @@ ghost use Rattle.paper.specs.Geometry.{capacity};
 ghost use Rattle.paper.specs.Image.{front, pagesOf, isOpen};
 ghost use Rattle.paper.specs.Calls.{«open», grow, release, grownFront, grown};
 ghost use Rattle.paper.specs.Index.{indexOf};
-ghost use Rattle.paper.specs.Refusals.{first};
 ghost use Rattle.paper.specs.Outcomes.{gives, lent, outcome};
 ghost use Rattle.rules.specs.Facts.{Formed};
-ghost use Rattle.rules.proofs.First.{to7};
 ghost use Rattle.image.specs.Readable.{Readable, fronted};
 ghost use Rattle.index.specs.Witnessed.{Indexed};
 ghost use Rattle.books.specs.Room.{hasRoom, Growing};
@@ -36,12 +34,6 @@ fn has_room(g: Geometry, image: &[u8], region: Region, pages: Pages) -> bool
     pages.0 <= most - old.0
 }
 
-fn indexed_refusal(g: Geometry, image: &[u8], index: &[u8]) -> u8
-    ensures { λ k. ⌜ k ≡ first (to7 g (now (image .entry)) (now (index .entry)) []) ⌝ }
-{
-    0
-}
-
 // After an accepted open, grow or release the index is what recover would then write.
 fn index_anew(g: Geometry, image: &[u8], index: &mut [u8])
     requires { ⌜ Readable g (now image) × Indexed g (now index) ⌝ }
@@ -55,7 +47,7 @@ fn index_anew(g: Geometry, image: &[u8], index: &mut [u8])
 pub fn open(g: Geometry, image: &mut [u8], index: &mut [u8]) -> Answer
     ensures { λ a. ⌜ gives a [] (lent (now (image .exit)) (now (index .exit))) ≡ outcome g «open» (lent (now (image .entry)) (now (index .entry))) ⌝ }
 {
-    let no = indexed_refusal(g, image, index);
+    let no = recovery::indexed_refusal(g, image, index);
     if no != 0 {
         return Answer::Refused(no);
     }
@@ -72,7 +64,7 @@ pub fn open(g: Geometry, image: &mut [u8], index: &mut [u8]) -> Answer
 pub fn release(g: Geometry, image: &mut [u8], index: &mut [u8], region: Region) -> Answer
     ensures { λ a. ⌜ gives a [] (lent (now (image .exit)) (now (index .exit))) ≡ outcome g (release (region .0)) (lent (now (image .entry)) (now (index .entry))) ⌝ }
 {
-    let no = indexed_refusal(g, image, index);
+    let no = recovery::indexed_refusal(g, image, index);
     if no != 0 {
         return Answer::Refused(no);
     }
@@ -123,7 +115,7 @@ fn extend(g: Geometry, image: &mut [u8], index: &mut [u8], region: Region, old: 
 pub fn grow(g: Geometry, image: &mut [u8], index: &mut [u8], region: Region, pages: Pages) -> Answer
     ensures { λ a. ⌜ gives a [] (lent (now (image .exit)) (now (index .exit))) ≡ outcome g (grow (region .0) (pages .0)) (lent (now (image .entry)) (now (index .entry))) ⌝ }
 {
-    let no = indexed_refusal(g, image, index);
+    let no = recovery::indexed_refusal(g, image, index);
     if no != 0 {
         return Answer::Refused(no);
     }

@@ -10,7 +10,6 @@ use Rattle.paper.specs.Calls.{«open», opened, nextRegion}
 use Rattle.paper.specs.Refusals.{no11}
 use Rattle.paper.specs.Outcomes.{accepted, buffer}
 use Rattle.rules.specs.Facts.{Ordered}
-use Rattle.rules.proofs.First.{passed7}
 use Rattle.keeping.proofs.Open.{open-next}
 use Rattle.books.proofs.Answers.{open-line, open-none, open-some, refused-early, refused-late, done}
 use Rattle.books.proofs.Left.{readable, writable, left-tabled}
@@ -35,12 +34,11 @@ returns c =
     let g = a .g in
     let i = a .image .now in
     let x = a .index .now in
-    refused-early g i x «open» (no11 g i x ∷ []) (open-line g i x) refl (c .before .indexed-refusal .result) (c .before .indexed-refusal .ensures) (c .if1 .taken)
+    refused-early g i x «open» (no11 g i x ∷ []) (open-line g i x) refl (c .before .indexed-refusal .result) (c .before .indexed-refusal .ensures .number) (c .if1 .taken)
 
 -- refusals 1 to 7 do not apply
 ordered : (c : tie.Else1) → Ordered (c .before .before .before .before .before .before .args .g) (c .before .before .before .before .before .before .args .image .now) (c .before .before .before .before .before .before .args .index .now)
-ordered c = let a = c .before .before .before .before .before .before .args in
-    passed7 (a .g) (a .image .now) (a .index .now) [] (sym (c .before .indexed-refusal .ensures) ∙ c .if1 .left) .0
+ordered c = c .before .indexed-refusal .ensures .ordered (c .if1 .left)
 
 -- nor does 11
 some : (c : tie.Else2) → nextRegion (c .before .before .before .before .before .before .before .before .before .before .before .args .g) (front (c .before .before .before .before .before .before .before .before .before .before .before .args .g) (c .before .before .before .before .before .before .before .before .before .before .before .args .image .now)) < noRegion (c .before .before .before .before .before .before .before .before .before .before .before .args .g)
