@@ -19,6 +19,7 @@ use Rattle.paper.proofs.Counting.{block-within, book-bytes-bound}
 use Rattle.rules.specs.Facts.{Reads}
 use Rattle.rules.proofs.Facts.{need-open}
 use Rattle.rules.proofs.Checks.{usable-facts}
+use Rattle.index.specs.Witnessed.{Indexed}
 use Rattle.stretches.specs.Stretch.{blockFrom, firstTouched, endTouched, Touches}
 use Rattle.stretches.proofs.Touched.{touches, end-need}
 
@@ -73,6 +74,9 @@ touched-walk g t index r o n = let e : endTouched g o n - firstTouched g o ≡ t
 
 -- ---- an accepted load or store
 module _ (g : Geometry) (image index : List ℕ) (r o n : ℕ) (R : Reads g image index r o n) where
+  pub reads-indexed : Indexed g index
+  reads-indexed = record { allowed = R .entered .geometry; long = R .entered .indexed }
+
   pub reads-region : r < g .entries
   reads-region = omega (arith, usable-facts g (front g image) r (R .usable) .1)
 

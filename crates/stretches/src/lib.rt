@@ -2,12 +2,13 @@
 ghost use mathlib.Core.Path.{_≡_};
 ghost use Prim.Native.Nat.{_+_, _*_, _/_, _^_, _<_, min};
 ghost use lib.ListN.{length, replicate};
-ghost use Rattle.paper.specs.Geometry.{Allowed, indexBytes};
+ghost use Rattle.paper.specs.Geometry.{Allowed};
 ghost use Rattle.paper.specs.Image.{front, needOf};
-ghost use Rattle.paper.specs.Index.{startIn, slotIn, blockIn};
+ghost use Rattle.paper.specs.Index.{startIn, blockIn};
 ghost use Rattle.paper.specs.Calls.{loaded, stored};
 ghost use Rattle.paper.specs.Refusals.{rightAt, touchedRight};
 ghost use Rattle.rules.specs.Facts.{Entered, Reads};
+ghost use Rattle.index.specs.Witnessed.{Indexed};
 ghost use Rattle.stretches.specs.Stretch.{blockFrom, firstTouched, endTouched, Touches, IsStretch};
 use paper::Block;
 use paper::Geometry;
@@ -30,25 +31,7 @@ fn lesser(a: usize, b: usize) -> usize
     b
 }
 
-// ---- the index
-
-fn start_in(g: Geometry, index: &[u8], r: Region) -> u16
-    requires { ⌜ length (now index) ≡ indexBytes g ⌝ }
-    requires { ⌜ r .0 < g .entries ⌝ }
-    ensures { λ s. ⌜ s ≡ startIn g (now (index .entry)) (r .0) ⌝ }
-{
-    numbers::read_u16(index, g.start_at(r))
-}
-
-fn slot_in(g: Geometry, index: &[u8], s: usize) -> Block
-    requires { ⌜ Allowed g × (length (now index) ≡ indexBytes g) ⌝ }
-    requires { ⌜ s < g .blocks ⌝ }
-    ensures { λ b. ⌜ b .0 ≡ slotIn g (now (index .entry)) s ⌝ }
-{
-    Block(numbers::read_u16(index, g.slot_at(s)))
-}
-
-// ---- the touched positions
+// ---- the touched positions. A book has fewer than 2^40 bytes, so that nothing here wraps
 
 fn first_touched(g: Geometry, offset: Offset) -> usize
     requires { ⌜ Allowed g ⌝ }
@@ -79,7 +62,7 @@ fn right_at(g: Geometry, image: &[u8], index: &[u8], r: Region, start: u16, p: u
     if g.blocks <= s {
         return false;
     }
-    let b = slot_in(g, index, s);
+    let b = Block(index::slot_in(g, index, s));
     if image::taken(g, image) <= b.0 {
         return false;
     }
@@ -102,7 +85,7 @@ pub fn touched_right(
     requires { ⌜ (r .0 < g .entries) × (offset .0 + n < 2 ^ 40) ⌝ }
     ensures { λ t. ⌜ t ≡ touchedRight g (front g (now (image .entry))) (now (index .entry)) (r .0) (offset .0) n ⌝ }
 {
-    let start = start_in(g, index, r);
+    let start = index::start_in(g, index, r);
     let first = first_touched(g, offset);
     let end = end_touched(g, offset, n);
     for p in first..end {
@@ -117,7 +100,7 @@ pub fn touched_right(
 
 // Of n bytes from the offset on, those that fall into position p, which they touch.
 fn stretch_at(g: Geometry, index: &[u8], start: u16, p: usize, offset: Offset, n: usize) -> Stretch
-    requires { ⌜ Allowed g × (length (now index) ≡ indexBytes g) × (start + p < g .blocks) ⌝ }
+    requires { ⌜ Indexed g (now index) × (start + p < g .blocks) ⌝ }
     requires { ⌜ Touches g (offset .0) n p × (offset .0 + n < 2 ^ 40) ⌝ }
     ensures { λ s. ⌜ IsStretch g (blockFrom g (now (index .entry)) start p) (offset .0) n p s ⌝ }
 {
@@ -125,14 +108,13 @@ fn stretch_at(g: Geometry, index: &[u8], start: u16, p: usize, offset: Offset, n
     let w = g.block_bytes();
     let begin = p * w;
     let end = lesser(o + n - begin, w);
-    let block = g.data_at(slot_in(g, index, start as usize + p));
+    let b = Block(index::slot_in(g, index, start as usize + p));
+    let block = g.data_at(b);
     if begin < o {
         let a = o - begin;
-        return Stretch {
-            at: block + a,
-            skip: 0,
-            bytes: end - a,
-        };
+        let at = block + a;
+        let bytes = end - a;
+        return Stretch { at, skip: 0, bytes };
     }
     Stretch {
         at: block,
@@ -143,11 +125,11 @@ fn stretch_at(g: Geometry, index: &[u8], start: u16, p: usize, offset: Offset, n
 
 // The first stretch of a load of n bytes.
 pub fn first_stretch(g: Geometry, index: &[u8], r: Region, offset: Offset, n: usize) -> Stretch
-    requires { ⌜ Allowed g × (length (now index) ≡ indexBytes g) × (r .0 < g .entries) ⌝ }
+    requires { ⌜ Indexed g (now index) × (r .0 < g .entries) ⌝ }
     requires { ⌜ (startIn g (now index) (r .0) + firstTouched g (offset .0) < g .blocks) × (0 < n) × (offset .0 + n < 2 ^ 40) ⌝ }
     ensures { λ s. ⌜ IsStretch g (blockIn g (now (index .entry)) (r .0) (firstTouched g (offset .0))) (offset .0) n (firstTouched g (offset .0)) s ⌝ }
 {
-    let start = start_in(g, index, r);
+    let start = index::start_in(g, index, r);
     stretch_at(g, index, start, first_touched(g, offset), offset, n)
 }
 
@@ -166,7 +148,7 @@ pub fn copy_out(
     ensures { λ _. ⌜ now (buffer .exit) ≡ loaded g (blockIn g (now (index .entry)) (r .0)) (offset .0) (length (now (buffer .entry))) (now (image .entry)) ⌝ }
 {
     let n = buffer.len();
-    let start = start_in(g, index, r);
+    let start = index::start_in(g, index, r);
     let first = first_touched(g, offset);
     let end = end_touched(g, offset, n);
     for p in first..end {
@@ -184,7 +166,7 @@ pub fn copy_in(g: Geometry, image: &mut [u8], index: &[u8], r: Region, offset: O
     ensures { λ _. ⌜ now (image .exit) ≡ stored g (blockIn g (now (index .entry)) (r .0)) (needOf g (front g (now (image .entry))) (r .0)) (offset .0) (now (bytes .entry)) (now (image .entry)) ⌝ }
 {
     let n = bytes.len();
-    let start = start_in(g, index, r);
+    let start = index::start_in(g, index, r);
     let first = first_touched(g, offset);
     let end = end_touched(g, offset, n);
     for p in first..end {

@@ -5,7 +5,7 @@ use lib.ListN.{length}
 use Rattle.paper.specs.Index.{blockIn}
 use Rattle.paper.specs.Calls.{stretch}
 use Rattle.stretches.specs.Stretch.{blockFrom, endTouched}
-use Rattle.stretches.proofs.Right.{Step, reads-region, reads-bound, reads-need, reads-step}
+use Rattle.stretches.proofs.Right.{Step, reads-indexed, reads-region, reads-bound, reads-need, reads-step}
 use Rattle.stretches.proofs.Walks.{stretch-fits, writtenTo, written-none, written-more, written-all}
 use native.Mathlib.Omega.{arith}
 use borrow.Author.Needs.{needs}
@@ -22,7 +22,7 @@ start-in-requires : tie.Need-start-in-requires Inv-loop μ-loop
 start-in-requires c κs =
     let a = c .before .before .before .args in
     let R = c .before .before .before .pre in
-    (R .entered .indexed, reads-region (a .g) (a .image .now) (a .index .now) (a .r .0) (a .offset .0) (length (a .bytes .now)) R)
+    (reads-indexed (a .g) (a .image .now) (a .index .now) (a .r .0) (a .offset .0) (length (a .bytes .now)) R, omega (arith, reads-region (a .g) (a .image .now) (a .index .now) (a .r .0) (a .offset .0) (length (a .bytes .now)) R))
 
 first-touched-requires : tie.Need-first-touched-requires Inv-loop μ-loop
 first-touched-requires c κs = search needs
@@ -57,7 +57,7 @@ stretch-at-requires c κs =
     let a = c .before .before .before .before .before .before .before .before .args in
     let R = c .before .before .before .before .before .before .before .before .pre in
     let b = reads-bound (a .g) (a .image .now) (a .index .now) (a .r .0) (a .offset .0) (length (a .bytes .now)) R in
-    ((R .entered .geometry, R .entered .indexed, step c .slot), (step c .touches, omega arith))
+    ((reads-indexed (a .g) (a .image .now) (a .index .now) (a .r .0) (a .offset .0) (length (a .bytes .now)) R, step c .slot), (step c .touches, omega arith))
 
 copy-part-requires : tie.Need-copy-part-requires Inv-loop μ-loop
 copy-part-requires c κs =

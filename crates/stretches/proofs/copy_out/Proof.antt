@@ -5,7 +5,7 @@ use lib.ListN.{length}
 use Rattle.laws.proofs.Lists.{copied-splice}
 use Rattle.paper.specs.Index.{blockIn}
 use Rattle.stretches.specs.Stretch.{blockFrom, endTouched}
-use Rattle.stretches.proofs.Right.{Step, reads-region, reads-bound, reads-step}
+use Rattle.stretches.proofs.Right.{Step, reads-indexed, reads-region, reads-bound, reads-step}
 use Rattle.stretches.proofs.Walks.{stretch-fits, lent-length, readTo, read-none, read-length, read-more, read-all}
 use native.Mathlib.Omega.{arith}
 use borrow.Author.Needs.{needs}
@@ -22,7 +22,7 @@ start-in-requires : tie.Need-start-in-requires Inv-loop μ-loop
 start-in-requires c κs =
     let a = c .before .before .before .args in
     let R = c .before .before .before .pre in
-    (R .entered .indexed, reads-region (a .g) (a .image .now) (a .index .now) (a .r .0) (a .offset .0) (length (a .buffer .now)) R)
+    (reads-indexed (a .g) (a .image .now) (a .index .now) (a .r .0) (a .offset .0) (length (a .buffer .now)) R, omega (arith, reads-region (a .g) (a .image .now) (a .index .now) (a .r .0) (a .offset .0) (length (a .buffer .now)) R))
 
 first-touched-requires : tie.Need-first-touched-requires Inv-loop μ-loop
 first-touched-requires c κs = search needs
@@ -67,7 +67,7 @@ stretch-at-requires c κs =
     let a = c .before .before .before .before .before .before .before .before .args in
     let R = c .before .before .before .before .before .before .before .before .pre in
     let b = reads-bound (a .g) (a .image .now) (a .index .now) (a .r .0) (a .offset .0) (length (a .buffer .now)) R in
-    ((R .entered .geometry, R .entered .indexed, step c .slot), (step c .touches, omega arith))
+    ((reads-indexed (a .g) (a .image .now) (a .index .now) (a .r .0) (a .offset .0) (length (a .buffer .now)) R, step c .slot), (step c .touches, omega arith))
 
 add-copy : tie.Need-add-copy Inv-loop μ-loop
 add-copy c = let h = room c in omega arith

@@ -37,14 +37,14 @@ data-at-requires c κs = search needs
 sub-a : tie.Need-sub-a
 sub-a c = search needs
 
-add-t17 : tie.Need-add-t17
-add-t17 c =
+add-at : tie.Need-add-at
+add-at c =
     let a = c .before .before .before .before .before .before .args in
-    let d = data-bound (a .g) (c .before .before .slot-in .result .0) (c .before .before .before .before .before .before .pre .0 .0) (omega arith) in
+    let d = data-bound (a .g) (c .before .before .slot-in .result) (c .before .before .before .before .before .before .pre .0 .0 .allowed) (omega arith) in
     omega arith
 
-sub-t18 : tie.Need-sub-t18
-sub-t18 c =
+sub-bytes : tie.Need-sub-bytes
+sub-bytes c =
     let a = c .before .before .before .before .before .before .args in
     let e = ap (λ (w : ℕ). a .p * w) (c .before .before .before .before .block-bytes .ensures) in
     omega arith
@@ -91,7 +91,7 @@ stretch-at-spec =
     slot-in-requires
     data-at-requires
     sub-a
-    add-t17
-    sub-t18
+    add-at
+    sub-bytes
     returns
     returns-2)
