@@ -47,11 +47,11 @@ module _ (g : Geometry) (image index : List ℕ) where
 
   -- the geometry and the index's length once right, recovery is done exactly where the image is well-formed
   module _ (A : Allowed g) (long : length index ≡ indexBytes g) where
-    later : refusal g image index recover ≡ first (no3 g image index ∷ no4 g image index ∷ no5 g image index ∷ no6 g image index ∷ [])
+    later : refusal g image index recover ≡ first (no3 g image [] ∷ no4 g image [] ∷ no5 g image [] ∷ no6 g image [] ∷ [])
     unfolding checks
     later = first-pass 1 _ _ (not-of-true (facts-allowed g A)) ∙ first-pass 2 _ _ (not-of-true (eq-eqb _ _ long))
 
-    pub done-exactly : (numberOf (outcome g recover s .answer) ≡ 0) ↔ (wellFormed g image index ≡ true)
+    pub done-exactly : (numberOf (outcome g recover s .answer) ≡ 0) ↔ (wellFormed g image ≡ true)
     unfolding wellFormed
     done-exactly =
         (λ e. eq-eqb _ _ (sym later ∙ sym (outcome-number g recover s) ∙ e), λ e. outcome-number g recover s ∙ later ∙ eqb-true _ _ e)
