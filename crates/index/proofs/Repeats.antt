@@ -20,8 +20,7 @@ use Rattle.paper.specs.WellFormed.{alone}
 use Rattle.paper.specs.Index.{startOf}
 use Rattle.rules.proofs.Counting.{slotFor, slots-apart}
 use Rattle.index.specs.Loose.{Loose}
-use Rattle.index.specs.Repeats.{within, unseen, marked, free, apart, StartsFrom, Framed}
-use Rattle.index.specs.declared.Window.{Window}
+use Rattle.index.specs.Repeats.{within, unseen, marked, free, apart, StartsFrom}
 use Rattle.index.proofs.Slots.{slot-below}
 
 -- ---- a slot in a window, or outside
@@ -149,11 +148,6 @@ module _ (g : Geometry) (t : List ℕ) where
 
     pub slot-after : (last : ℕ) → last ≤ owner g t b → startOf g t last ≤ slotFor g t b
     slot-after last h = omega (arith, sum-mono (needOf g t) last (owner g t b) h)
-
-    -- as the code finds it
-    pub slot-read : (w : Window) (starts : List ℕ) (r p : ℕ) → Framed g t w starts → r ≡ owner g t b → p ≡ place g t b → w .first ≤ r → r < w .last
-        → getD starts (r - w .first) 0 + p ≡ slotFor g t b
-    slot-read w starts r p F e d lo hi = omega (arith, F .known r lo hi, ap (startOf g t) e)
 
     -- one slot is one pair
     slot-names : (a : ℕ) → a < taken g t → eqb (slotFor g t a) (slotFor g t b) ≡ names g t (owner g t b) (place g t b) a

@@ -5,7 +5,7 @@ ghost use lib.ListN.{length};
 ghost use Rattle.laws.specs.Bytes.{put};
 ghost use Rattle.laws.specs.Folds.{allBelow, allFrom};
 ghost use Rattle.paper.specs.Geometry.{slotAt};
-ghost use Rattle.paper.specs.Image.{front, taken};
+ghost use Rattle.paper.specs.Image.{front, taken, owner};
 ghost use Rattle.paper.specs.Index.{indexOf, startOf, startIn, slotIn};
 ghost use Rattle.paper.specs.WellFormed.{alone};
 ghost use Rattle.rules.specs.Facts.{Rules};
@@ -154,6 +154,11 @@ pub fn witnessed(g: Geometry, image: &[u8], index: &[u8]) -> bool
 
 // ---- whether two blocks name the same pair, from the tables alone
 
+// How many regions and how many slots are looked at in one pass: a small controller has room for 12 KiB of both.
+const REGIONS_AT_ONCE: usize = 2048;
+
+const SLOTS_AT_ONCE: usize = 8192;
+
 // Regions from `first` up to `last`, and of their slots those from `from` up to `to`.
 struct Window {
     first: usize,
@@ -193,6 +198,17 @@ fn read_starts(
     sum
 }
 
+// The slot of a block of one of the window's regions.
+fn window_slot(g: Geometry, image: &[u8], w: Window, starts: &[u16], b: Block) -> usize
+    requires { ⌜ Tabled g (now image) × Framed g (front g (now image)) w (now starts) ⌝ }
+    requires { ⌜ b .0 < taken g (front g (now image)) ⌝ }
+    requires { ⌜ (w .first ≤ owner g (front g (now image)) (b .0)) × (owner g (front g (now image)) (b .0) < w .last) ⌝ }
+    ensures { λ s. ⌜ s ≡ slotFor g (front g (now (image .entry))) (b .0) ⌝ }
+{
+    let nth = image::owner(g, image, b).0 as usize - w.first;
+    starts[nth] as usize + image::place(g, image, b) as usize
+}
+
 // Marks block b's slot, where it is one of the window's; false where it is marked already.
 fn mark(g: Geometry, image: &[u8], w: Window, starts: &[u16], seen: &mut [u8], b: Block) -> bool
     requires { ⌜ Tabled g (now image) × Framed g (front g (now image)) w (now starts) ⌝ }
@@ -208,8 +224,7 @@ fn mark(g: Geometry, image: &[u8], w: Window, starts: &[u16], seen: &mut [u8], b
     if w.last <= r {
         return true;
     }
-    let nth = r - w.first;
-    let s = starts[nth] as usize + image::place(g, image, b) as usize;
+    let s = window_slot(g, image, w, starts, b);
     if s < w.from {
         return true;
     }
@@ -286,12 +301,12 @@ fn all_apart(g: Geometry, image: &[u8], starts: &mut [u16], seen: &mut [u8]) -> 
     true
 }
 
-// Whether no two blocks name the same pair. The two arrays have 12 KiB; full tables are passed over at most E / 2,048 + N / 8,192 times.
+// Whether no two blocks name the same pair, in at most E / 2,048 + N / 8,192 + 1 passes over the blocks.
 pub fn alone_all(g: Geometry, image: &[u8]) -> bool
     requires { ⌜ Tabled g (now image) ⌝ }
     ensures { λ t. ⌜ t ≡ allBelow (taken g (front g (now (image .entry)))) (alone g (front g (now (image .entry)))) ⌝ }
 {
-    let mut starts = [0u16; 2048];
-    let mut seen = [0u8; 8192];
+    let mut starts = [0u16; REGIONS_AT_ONCE];
+    let mut seen = [0u8; SLOTS_AT_ONCE];
     all_apart(g, image, &mut starts, &mut seen)
 }
