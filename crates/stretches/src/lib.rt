@@ -180,7 +180,7 @@ pub fn zero_in(g: Geometry, image: &mut [u8], index: &[u8], r: Region, offset: O
     requires { ⌜ Reads g (now image) (now index) (r .0) (offset .0) n ⌝ }
     ensures { λ _. ⌜ now (image .exit) ≡ stored g (blockIn g (now (index .entry)) (r .0)) (needOf g (front g (now (image .entry))) (r .0)) (offset .0) (replicate n 0) (now (image .entry)) ⌝ }
 {
-    let start = start_in(g, index, r);
+    let start = index::start_in(g, index, r);
     let first = first_touched(g, offset);
     let end = end_touched(g, offset, n);
     for p in first..end {

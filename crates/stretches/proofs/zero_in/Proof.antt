@@ -7,7 +7,7 @@ use Rattle.laws.specs.Bytes.{splice}
 use Rattle.paper.specs.Index.{blockIn}
 use Rattle.paper.specs.Calls.{stretch}
 use Rattle.stretches.specs.Stretch.{blockFrom, endTouched}
-use Rattle.stretches.proofs.Right.{Step, reads-region, reads-bound, reads-need, reads-step}
+use Rattle.stretches.proofs.Right.{Step, reads-indexed, reads-region, reads-bound, reads-need, reads-step}
 use Rattle.stretches.proofs.Walks.{stretch-fits, writtenTo, written-none, written-more, written-all}
 use Rattle.stretches.proofs.Zeros.{zeros, zeros-part}
 use native.Mathlib.Omega.{arith}
@@ -24,7 +24,8 @@ abbrev μ-loop : tie.MeasureT-loop
 start-in-requires : tie.Need-start-in-requires Inv-loop μ-loop
 start-in-requires c κs =
     let s = c .before .before in
-    (s .pre .entered .indexed, reads-region (s .args .g) (s .args .image .now) (s .args .index .now) (s .args .r .0) (s .args .offset .0) (s .args .n) (s .pre))
+    let a = s .args in
+    (reads-indexed (a .g) (a .image .now) (a .index .now) (a .r .0) (a .offset .0) (a .n) (s .pre), omega (arith, reads-region (a .g) (a .image .now) (a .index .now) (a .r .0) (a .offset .0) (a .n) (s .pre)))
 
 first-touched-requires : tie.Need-first-touched-requires Inv-loop μ-loop
 first-touched-requires c κs = search needs
@@ -65,7 +66,7 @@ stretch-at-requires : tie.Need-stretch-at-requires Inv-loop μ-loop
 stretch-at-requires c κs =
     let s = c .before .before .before .before .before .before .before in
     let b = reads-bound (s .args .g) (s .args .image .now) (s .args .index .now) (s .args .r .0) (s .args .offset .0) (s .args .n) (s .pre) in
-    ((s .pre .entered .geometry, s .pre .entered .indexed, step c .slot), (step c .touches, omega arith))
+    ((reads-indexed (s .args .g) (s .args .image .now) (s .args .index .now) (s .args .r .0) (s .args .offset .0) (s .args .n) (s .pre), step c .slot), (step c .touches, omega arith))
 
 add-zero-part : tie.Need-add-zero-part Inv-loop μ-loop
 add-zero-part c =
