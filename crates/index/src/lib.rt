@@ -11,7 +11,7 @@ ghost use Rattle.paper.specs.WellFormed.{alone};
 ghost use Rattle.rules.specs.Facts.{Rules};
 ghost use Rattle.rules.proofs.Counting.{slotFor};
 ghost use Rattle.image.specs.Readable.{Readable};
-ghost use Rattle.index.specs.Loose.{Tabled};
+ghost use Rattle.index.specs.Slotted.{Tabled};
 ghost use Rattle.index.specs.Witnessed.{Indexed, Starts, Spare, Witness, startRight, blockRight, spareRight, witnessed};
 ghost use Rattle.index.specs.Repeats.{unseen, marked, apart, StartsFrom, Framed};
 use paper::Block;
