@@ -154,7 +154,7 @@ pub fn witnessed(g: Geometry, image: &[u8], index: &[u8]) -> bool
 
 // ---- whether two blocks name the same pair, from the tables alone
 
-// How many regions and how many slots are looked at in one pass: a small controller has room for 12 KiB of both.
+// How many regions and how many slots are looked at in one pass: 12 KiB together, since a small controller runs this too.
 const REGIONS_AT_ONCE: usize = 2048;
 
 const SLOTS_AT_ONCE: usize = 8192;
