@@ -19,7 +19,7 @@ use Rattle.paper.specs.Image.{taken, owner, place, names, needOf}
 use Rattle.paper.specs.WellFormed.{alone}
 use Rattle.paper.specs.Index.{startOf}
 use Rattle.rules.proofs.Counting.{slotFor, slots-apart}
-use Rattle.index.specs.Loose.{Loose}
+use Rattle.index.specs.Slotted.{Slotted}
 use Rattle.index.specs.Repeats.{within, unseen, marked, free, apart, StartsFrom}
 use Rattle.index.proofs.Slots.{slot-below}
 
@@ -142,7 +142,7 @@ module _ (g : Geometry) (t : List ℕ) where
       go true d = clash (apart g t a z) (facts-apart a z (λ b l m n. apart-facts from to d b l (omega arith) (omega arith))) e
       go false d = d
 
-  module _ (L : Loose g t) (b : ℕ) (l : b < taken g t) where
+  module _ (L : Slotted g t) (b : ℕ) (l : b < taken g t) where
     pub slot-before : (first : ℕ) → owner g t b < first → slotFor g t b < startOf g t first
     slot-before first h = omega (arith, L .named b l, sum-gap first (needOf g t) (owner g t b) h)
 
@@ -169,7 +169,7 @@ module _ (g : Geometry) (t : List ℕ) where
     unfolding free
     free-alone = all-ext b _ _ (λ a h. ap not (slot-names a (omega arith)))
 
-  pub apart-alone : Loose g t → apart g t 0 (taken g t) ≡ allBelow (taken g t) (alone g t)
+  pub apart-alone : Slotted g t → apart g t 0 (taken g t) ≡ allBelow (taken g t) (alone g t)
   unfolding apart
   apart-alone L =
       all-ext (taken g t) (clear 0 (taken g t)) (alone g t)

@@ -15,7 +15,7 @@ use Rattle.rules.specs.Facts.{Rules}
 use Rattle.rules.proofs.Counting.{slotFor}
 use Rattle.rules.proofs.Index.{slot-once}
 use Rattle.index.specs.Witnessed.{Indexed, Starts, Spare}
-use Rattle.index.proofs.Slots.{rules-loose, slot-below}
+use Rattle.index.proofs.Slots.{rules-slotted, slot-below}
 use Rattle.index.proofs.Numbers.{number-other, num-filled, num-before}
 
 module _ (g : Geometry) (t index : List ℕ) (I : Indexed g index) where
@@ -46,7 +46,7 @@ module _ (g : Geometry) (t index : List ℕ) (I : Indexed g index) where
     with-b = put 2 (slotAt g (slotFor g t b)) b index
 
     inside : slotFor g t b < taken g t
-    inside = slot-below g t (rules-loose g t R) b l
+    inside = slot-below g t (rules-slotted g t R) b l
 
     slot-other : (k : ℕ) → (k ≡ g .entries + 1 + slotFor g t b → ⊥) → num 2 with-b (2 * k) ≡ num 2 index (2 * k)
     slot-other k ne = number-other (g .entries + 1 + slotFor g t b) k b index (omega (arith, I .long, inside)) ne

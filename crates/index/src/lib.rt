@@ -11,7 +11,7 @@ ghost use Rattle.paper.specs.WellFormed.{alone};
 ghost use Rattle.rules.specs.Facts.{Rules};
 ghost use Rattle.rules.proofs.Counting.{slotFor};
 ghost use Rattle.image.specs.Readable.{Readable};
-ghost use Rattle.index.specs.Loose.{Tabled};
+ghost use Rattle.index.specs.Slotted.{Tabled};
 ghost use Rattle.index.specs.Witnessed.{Indexed, Starts, Spare, Witness, startRight, blockRight, spareRight, witnessed};
 ghost use Rattle.index.specs.Repeats.{unseen, marked, apart, StartsFrom, Framed};
 use paper::Block;
@@ -154,7 +154,7 @@ pub fn witnessed(g: Geometry, image: &[u8], index: &[u8]) -> bool
 
 // ---- whether two blocks name the same pair, from the tables alone
 
-// How many regions and how many slots are looked at in one pass: a small controller has room for 12 KiB of both.
+// How many regions and how many slots are looked at in one pass: 12 KiB together, since a small controller runs this too.
 const REGIONS_AT_ONCE: usize = 2048;
 
 const SLOTS_AT_ONCE: usize = 8192;

@@ -5,13 +5,12 @@ use mathlib.Core.Logic.{_≢_}
 use mathlib.Core.Path.{_≡_, refl, sym, _∙_}
 use mathlib.Core.List.{List, [], _∷_}
 use borrow.Author.Tests.{ltb-true}
-use lib.Dec.{ltb}
 use Rattle.laws.specs.Folds.{allBelow}
 use Rattle.laws.specs.Bytes.{same}
-use Rattle.laws.proofs.Tests.{and-parts, not-of-true, not-of-false}
+use Rattle.laws.proofs.Tests.{and-left, and-right, and-parts, not-of-true, not-of-false}
 use Rattle.laws.proofs.Folds.{all-below}
 use Rattle.paper.specs.declared.Geometry.{Geometry}
-use Rattle.paper.specs.Image.{front, taken, owner, place, isOpen, needOf}
+use Rattle.paper.specs.Image.{front, taken, owner, isOpen}
 use Rattle.paper.specs.WellFormed.{ruleA, ruleB, ruleC, named, alone, ruleD, ruleE, inOrder}
 use Rattle.paper.specs.Index.{indexOf}
 use Rattle.paper.specs.Calls.{recover}
@@ -19,42 +18,27 @@ use Rattle.paper.specs.Refusals.{first, no6, no7, checks, refusal}
 use Rattle.paper.specs.declared.Answer.the-variants.{Done}
 use Rattle.paper.specs.Outcomes.{lent, gives, accepted, outcome}
 use Rattle.rules.specs.Facts.{Entered}
-use Rattle.rules.proofs.Facts.{ruleA-facts, ruleB-facts, ruleC-facts, ruleE-facts, order-rules}
+use Rattle.rules.proofs.Facts.{once-alone, ruleC-facts, order-rules}
 use Rattle.laws.proofs.Known.{Bytes}
 use Rattle.rules.proofs.First.{first-nil, first-pass, first-halt, pass5, entered-formed, to7, pass7, passed7}
 use Rattle.rules.proofs.Checks.{recover-accepted}
 use Rattle.rules.proofs.Outcomes.{outcome-done}
 use Rattle.desk.specs.Shared.{indexedChecks, EarlyIndexed}
 use Rattle.desk.proofs.Shared.{first-stop, entered-readable}
-use Rattle.index.specs.Loose.{Loose, Tabled}
+use Rattle.index.specs.Slotted.{Slotted, Tabled}
 use Rattle.index.specs.Witnessed.{Indexed, witnessed}
-use Rattle.index.proofs.Witness.{witnessed-rules, witnessed-index, witnessed-same}
+use Rattle.index.proofs.Witness.{witnessed-once, witnessed-index, witnessed-same}
 use Rattle.recovery.specs.Refused.{loosely, Recoverable, InOrder}
 
 module _ (g : Geometry) (t : List ℕ) where
-  pub loosely-facts : loosely g t ≡ true → Loose g t
+  pub loosely-facts : loosely g t ≡ true → Slotted g t
   unfolding loosely
   loosely-facts e =
-      let p4 = and-parts _ (ruleE g t) e in
-      let p3 = and-parts _ (allBelow (taken g t) (named g t)) (p4 .0) in
-      let p2 = and-parts _ (ruleC g t) (p3 .0) in
-      let p1 = and-parts (ruleA g t) (ruleB g t) (p2 .0) in
-      let a = ruleA-facts g t (p1 .0) in
-      let b = ruleB-facts g t (p1 .1) in
+      let p3 = and-parts _ (allBelow (taken g t) (named g t)) (and-left _ (ruleE g t) e) in
       record {
-        low = a .0;
-        high = a .1;
-        fits = b .0;
-        whole = b .1;
-        none = b .2;
-        total = ruleC-facts g t (p2 .1);
-        owned = λ b l. names b (all-below (taken g t) (named g t) (p3 .1) b l) .0;
-        named = λ b l. ltb-true _ _ (names b (all-below (taken g t) (named g t) (p3 .1) b l) .1);
-        blank = ruleE-facts g t (p4 .1);
+        total = ruleC-facts g t (and-right (ruleA g t && ruleB g t) (ruleC g t) (p3 .0));
+        named = λ b l. ltb-true _ _ (and-right (isOpen g t (owner g t b)) _ (all-below (taken g t) (named g t) (p3 .1) b l));
       }
-    where
-      names : (b : ℕ) → named g t b ≡ true → (isOpen g t (owner g t b) ≡ true) × (ltb (place g t b) (needOf g t (owner g t b)) ≡ true)
-      names b e = and-parts (isOpen g t (owner g t b)) _ e
 
   -- the last sentence of d may come last
   order-last : inOrder g t ≡ (loosely g t && allBelow (taken g t) (alone g t))
@@ -122,12 +106,12 @@ module _ (g : Geometry) (image index : List ℕ) where
 
     pub tabled : loosely g t ≡ true → Tabled g image × Indexed g index
     tabled l =
-        (record { readable = entered-readable g image index E; bound = E .header .taken-most; loose = loosely-facts g t l }, lent-index)
+        (record { readable = entered-readable g image index E; bound = E .header .taken-most; slotted = loosely-facts g t l }, lent-index)
 
-    module _ (bytes : Bytes index) (L : Loose g t) where
-      pub order-0 : witnessed g t index ≡ true → InOrder g image index 0
-      order-0 w =
-          let R = witnessed-rules g t index L w in
+    module _ (bytes : Bytes index) where
+      pub order-0 : loosely g t ≡ true → witnessed g t index ≡ true → InOrder g image index 0
+      order-0 l w =
+          let R = order-rules g t (order-loose g t l ∙ once-alone g t (witnessed-once g t index w)) in
           in-order 0 (sym (pass7 g image index (record {
             geometry = E .geometry;
             long = E .long;

@@ -73,7 +73,7 @@ returns c =
     let a = c .before .before .before .before .before .before .before .before .before .before .before .before .before .before .before .before .before .before .args in
     let x = c .before .before .before .before .before .before .before .before .before .before .before .before .before .before .loop in
     let t = front (a .g) (a .image .now) in
-    let n = need-inside (a .g) t (c .before .before .before .before .before .before .before .before .before .before .before .before .before .before .before .before .before .before .pre .0 .loose) (x .first + c .before .before .before .before .before .before .before .before .before .before .least .result) (omega arith) in
+    let n = need-inside (a .g) t (c .before .before .before .before .before .before .before .before .before .before .before .before .before .before .before .before .before .before .pre .0 .slotted) (x .first + c .before .before .before .before .before .before .before .before .before .before .least .result) (omega arith) in
     sym (apart-part (a .g) t 0 (taken (a .g) t) (x .from) (c .before .before .before .before .before .before .before .before .read-starts .result) (omega arith) (omega (arith, c .before .before .before .before .before .before .before .before .read-starts .ensures .0)) (sym (c .before .before .before .windows-apart .ensures) ∙ not-true _ (c .if2 .taken)))
 
 loop-less : tie.Need-loop-less Inv-loop μ-loop
@@ -103,7 +103,7 @@ returns-2 c =
     let x = c .before .before .loop in
     let t = front (a .g) (a .image .now) in
     let e : x .first ≡ a .g .entries = omega arith in
-    let d : x .from ≡ taken (a .g) t = x .inv .3 ∙ (rw e (c .before .before .before .before .before .before .pre .0 .loose .total)) in
+    let d : x .from ≡ taken (a .g) t = x .inv .3 ∙ (rw e (c .before .before .before .before .before .before .pre .0 .slotted .total)) in
     sym (rw d at (x .inv .4))
 
 pub all-apart-spec : {M : Type 1} → statement M

@@ -16,7 +16,7 @@ all-apart-requires : tie.Need-all-apart-requires
 all-apart-requires c κs = search needs
 
 returns : tie.Need-returns
-returns c = let a = c .before .before .before .before .before .before .args in c .before .before .all-apart .ensures ∙ apart-alone (a .g) (front (a .g) (a .image .now)) (c .before .before .before .before .before .before .pre .loose)
+returns c = let a = c .before .before .before .before .before .before .args in c .before .before .all-apart .ensures ∙ apart-alone (a .g) (front (a .g) (a .image .now)) (c .before .before .before .before .before .before .pre .slotted)
 
 pub alone-all-spec : {M : Type 1} → statement M
 alone-all-spec =

@@ -18,7 +18,7 @@ returns c =
     let a = c .before .before .before .before .before .before .before .args in
     let p = c .before .before .before .before .before .before .before .pre in
     let t = front (a .g) (a .image .now) in
-    let h = slot-before (a .g) t (p .0 .0 .loose) (a .b .0) (p .1 .1) (a .w .first) (omega arith) in
+    let h = slot-before (a .g) t (p .0 .0 .slotted) (a .b .0) (p .1 .1) (a .w .first) (omega arith) in
     passed-by (a .w .from) (a .w .to) (slotFor (a .g) t (a .b .0)) (a .seen .now) (is-before (a .w .from) (a .w .to) _ (omega (arith, p .0 .1 .low)))
 
 returns-2 : tie.Need-returns-2
@@ -26,7 +26,7 @@ returns-2 c =
     let a = c .before .before .before .before .before .before .before .before .before .args in
     let p = c .before .before .before .before .before .before .before .before .before .pre in
     let t = front (a .g) (a .image .now) in
-    let h = slot-after (a .g) t (p .0 .0 .loose) (a .b .0) (p .1 .1) (a .w .last) (omega arith) in
+    let h = slot-after (a .g) t (p .0 .0 .slotted) (a .b .0) (p .1 .1) (a .w .last) (omega arith) in
     passed-by (a .w .from) (a .w .to) (slotFor (a .g) t (a .b .0)) (a .seen .now) (is-after (a .w .from) (a .w .to) _ (omega (arith, p .0 .1 .high)))
 
 window-slot-requires : tie.Need-window-slot-requires

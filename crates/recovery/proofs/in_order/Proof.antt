@@ -20,7 +20,7 @@ alone-all-requires c κs =
     let a = c .before .before .before .args in
     let p = c .before .before .before .pre in
     let l = sym (c .before .loosely .ensures) ∙ not-false _ (c .if1 .left) in
-    record { readable = p .0; bound = p .1; loose = loosely-facts (a .g) (front (a .g) (a .image .now)) l }
+    record { readable = p .0; bound = p .1; slotted = loosely-facts (a .g) (front (a .g) (a .image .now)) l }
 
 returns-2 : tie.Need-returns-2
 returns-2 c =

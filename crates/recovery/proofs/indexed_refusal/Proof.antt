@@ -2,7 +2,7 @@
 use mathlib.Core.Path.{sym, _∙_}
 use Rattle.paper.specs.Image.{front}
 use Rattle.desk.proofs.Shared.{entered-readable}
-use Rattle.recovery.proofs.Refused.{loosely-facts, order-loose, order-not-loose, tabled, order-stop, order-6, order-0, order-7}
+use Rattle.recovery.proofs.Refused.{order-loose, order-not-loose, tabled, order-stop, order-6, order-0, order-7}
 use borrow.Author.Tests.{not-true, not-false}
 use borrow.Author.Needs.{needs}
 use Rattle.recovery.proofs.indexed_refusal.Statement.{statement}
@@ -42,7 +42,7 @@ returns-3 c =
     let E = c .before .before .before .before .before .early-indexed .ensures .entered (c .before .before .before .before .if1 .left) in
     let l = sym (c .before .before .before .loosely .ensures) ∙ not-false _ (c .before .before .if2 .left) in
     order-0 (a .g) (a .image .now) (a .index .now) E (λ i. c .before .before .before .before .before .before .shared-slice-known2 .given i .fits)
-    (loosely-facts (a .g) (front (a .g) (a .image .now)) l) (sym (c .before .witnessed .ensures) ∙ c .if3 .taken)
+    l (sym (c .before .witnessed .ensures) ∙ c .if3 .taken)
 
 alone-all-requires : tie.Need-alone-all-requires
 alone-all-requires c κs =
@@ -66,7 +66,7 @@ returns-5 c =
     let E = c .before .before .before .before .before .before .before .early-indexed .ensures .entered (c .before .before .before .before .before .before .if1 .left) in
     let l = sym (c .before .before .before .before .before .loosely .ensures) ∙ not-false _ (c .before .before .before .before .if2 .left) in
     order-7 (a .g) (a .image .now) (a .index .now) E (λ i. c .before .before .before .before .before .before .before .before .shared-slice-known2 .given i .fits)
-    (loosely-facts (a .g) t l) (sym (c .before .before .before .witnessed .ensures) ∙ c .before .before .if3 .left)
+    (sym (c .before .before .before .witnessed .ensures) ∙ c .before .before .if3 .left)
     (order-loose (a .g) t l ∙ sym (c .before .alone-all .ensures) ∙ not-false _ (c .if4 .left))
 
 pub indexed-refusal-spec : {M : Type 1} → statement M
