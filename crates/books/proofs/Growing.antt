@@ -1,8 +1,8 @@
 -- A growth: its numbers are small, each grant is possible, the new pages can be reached, and zeros in them are what the paper tells.
 use Prim.Native.Nat.{ℕ, _+_, _*_, _/_, _≤_, _<_}
 use mathlib.Core.Bool.{true}
-use mathlib.Core.Path.{_≡_, sym, _∙_}
-use mathlib.Core.List.{List, _++_}
+use mathlib.Core.Path.{_≡_, _∙_}
+use mathlib.Core.List.{List}
 use native.Mathlib.Omega.{arith}
 use native.Mathlib.Nat.{add-mul}
 use borrow.Author.Tests.{eq-eqb, ne-eqb, lt-ltb}
@@ -12,12 +12,12 @@ use Rattle.laws.proofs.Tests.{and-true}
 use Rattle.laws.proofs.Folds.{below-all}
 use Rattle.paper.specs.declared.Geometry.{Geometry}
 use Rattle.paper.specs.Geometry.{blockBytes, Allowed, need, capacity, mostBookPages}
-use Rattle.paper.specs.Image.{front, rest, taken, pagesOf, isOpen, needOf, blockOf}
+use Rattle.paper.specs.Image.{front, taken, pagesOf, isOpen, needOf, blockOf}
 use Rattle.paper.specs.Index.{indexOf, startIn, blockIn}
 use Rattle.paper.specs.Calls.{granted, newBlocks, grownFront, grown, stored}
 use Rattle.paper.specs.Refusals.{usable, rightAt, touched, touchedRight}
 use Rattle.paper.proofs.Counting.{capacity-blocks, need-mono}
-use Rattle.rules.specs.Facts.{Rules, Formed, Entered, Ordered, Reads, callable}
+use Rattle.rules.specs.Facts.{Rules, Formed, Reads, callable}
 use Rattle.rules.proofs.Facts.{open-below, need-open}
 use Rattle.rules.proofs.Counting.{block-below, block-owner, block-place}
 use Rattle.rules.proofs.Index.{length-index, block-read, slot-fits}
@@ -26,11 +26,11 @@ use Rattle.rules.proofs.Touched.{touched-below}
 use Rattle.keeping.proofs.Stored.{stored-ext}
 use Rattle.keeping.proofs.Grow.{GrownTo, grownFront-to}
 use Rattle.keeping.proofs.Growth.{grown-front}
-use Rattle.image.specs.Readable.{Readable, fronted}
+use Rattle.image.specs.Readable.{fronted}
 use Rattle.granting.specs.Grant.{Grantable}
 use Rattle.granting.proofs.Spare.{grantable}
-use Rattle.granting.proofs.Fronts.{still-readable, front-is}
-use Rattle.books.specs.Room.{available, Growing}
+use Rattle.granting.proofs.Fronts.{front-is}
+use Rattle.books.specs.Room.{Growing}
 use Rattle.books.proofs.Left.{readable}
 
 module _ (g : Geometry) (image index : List ℕ) (r n : ℕ) (W : Growing g image index r n) where

@@ -19,8 +19,8 @@ use paper::Offset;
 use paper::Pages;
 use paper::Region;
 
-// Whether region 1's blocks and those from N to K are enough for so many pages more. The sum of the pages could wrap: it is held against
-// what the blocks leave.
+// Whether region 1's blocks and those from N to K are enough for so many pages more. The sum of the pages could wrap, so the growth alone is
+// held against what the blocks leave.
 fn has_room(g: Geometry, image: &[u8], region: Region, pages: Pages) -> bool
     requires { ⌜ Readable g (now image) ⌝ }
     requires { ⌜ Formed g (capacity g (length (now image))) (front g (now image)) ⌝ }
@@ -91,7 +91,7 @@ fn grow_tables(g: Geometry, image: &mut [u8], index: &[u8], region: Region, page
     image::set_pages(g, image, region, new);
 }
 
-// The first byte of the new pages. It may lie in a block that the book holds already, whose bytes are then another book's old ones.
+// The first byte of the new pages. It may lie inside a block that the book holds already, whose other pages show another book's old bytes.
 fn first_new(g: Geometry, old: Pages) -> Offset
     requires { ⌜ old .0 * g .page < 2 ^ 64 ⌝ }
     ensures { λ o. ⌜ o .0 ≡ old .0 * g .page ⌝ }

@@ -1,18 +1,20 @@
 -- An image whose front was written anew: its front is that front, and the rest stands.
-use Prim.Native.Nat.{ℕ, _+_, _*_, _≤_}
+use Prim.Native.Nat.{ℕ, _*_, _≤_}
 use mathlib.Core.Path.{_≡_, sym, _∙_, ap}
-use mathlib.Core.List.{List, _++_}
+use mathlib.Core.List.{List}
 use native.Mathlib.Omega.{arith}
 use native.Mathlib.Nat.{mul-le-mul-right}
 use lib.ListN.{length, length-append, length-drop, take-append-drop}
-use lib.Seq.{take-at, drop-at}
+use lib.Seq.{drop-at}
 use Rattle.paper.specs.declared.Geometry.{Geometry}
 use Rattle.paper.specs.Geometry.{Allowed, frontBytes}
 use Rattle.paper.specs.Image.{front, rest}
 use Rattle.paper.proofs.Counting.{book-pages-bound}
+use Rattle.rules.proofs.Cells.{front-joined}
 use Rattle.image.specs.Readable.{Readable, fronted}
 use Rattle.image.proofs.Fronts.{front-fits}
 
+-- writes keep an image's length
 pub still-readable : (g : Geometry) (image later : List ℕ) → Readable g image → length later ≡ length image → Readable g later
 still-readable g image later R long = record { allowed = R .allowed; long = rw long (R .long) }
 
@@ -21,9 +23,9 @@ module _ (g : Geometry) (image later t : List ℕ) (R : Readable g image) (long 
   full = omega (arith, front-fits g image R, simp (length-append, length-drop) at (sym long ∙ ap length e))
 
   pub front-is : front g later ≡ t
-  front-is = rw e (take-at t (rest g image) (frontBytes g) full)
+  front-is = rw e (front-joined g t image full)
 
-  pub rest-is : rest g later ≡ rest g image
+  rest-is : rest g later ≡ rest g image
   rest-is = rw e (drop-at t (rest g image) (frontBytes g) full)
 
   -- a second write after the first

@@ -19,10 +19,10 @@ use Rattle.rules.proofs.Facts.{open-below}
 use Rattle.rules.proofs.Counting.{need-taken, block-below, block-owner, block-place, block-is}
 use Rattle.rules.proofs.Checks.{callable-apart}
 use Rattle.rules.proofs.Index.{length-index, block-read, slot-fits}
-use Rattle.keeping.proofs.Writes.{EntrySet, SizeSet, set-entry, set-pages}
+use Rattle.keeping.proofs.Writes.{set-entry, set-pages}
 use Rattle.keeping.proofs.Grant.{Grown, granted-grown}
 use Rattle.keeping.proofs.Grow.{grown-all}
-use Rattle.granting.specs.Grant.{Highest, Grantable}
+use Rattle.granting.specs.Grant.{Grantable}
 
 -- ---- one grant: the positions below the highest
 module _ (g : Geometry) (A : Allowed g) (cap : ℕ) (r : ℕ) (t : List ℕ) (F : Formed g cap t) (G : Grown g cap t r 1 (granted g r t)) (inside : r < g .entries) where

@@ -1,6 +1,6 @@
 -- `books::extend` meets its contract.
 use Prim.Native.Nat.{_*_}
-use mathlib.Core.Path.{_≡_, _∙_, ap}
+use mathlib.Core.Path.{_∙_, ap}
 use Rattle.paper.specs.Image.{front}
 use Rattle.paper.specs.Calls.{grownFront}
 use Rattle.paper.proofs.Counting.{book-bytes-bound}

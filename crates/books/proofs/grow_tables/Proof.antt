@@ -1,6 +1,6 @@
 -- `books::grow_tables` meets its contract.
-use Prim.Native.Nat.{ℕ, _+_, _≤_}
-use mathlib.Core.Path.{_≡_, _∙_}
+use Prim.Native.Nat.{_+_, _≤_}
+use mathlib.Core.Path.{_∙_}
 use Rattle.laws.specs.Folds.{steps}
 use Rattle.paper.specs.Geometry.{need}
 use Rattle.paper.specs.Image.{front, setPages}

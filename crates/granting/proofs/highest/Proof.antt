@@ -1,6 +1,5 @@
 -- `granting::highest` meets its contract.
 use mathlib.Core.Path.{_∙_}
-use native.Mathlib.Omega.{arith}
 use borrow.Author.Needs.{needs}
 use Rattle.granting.proofs.highest.Statement.{statement}
 use Rattle.granting.proofs.highest.Tie as tie

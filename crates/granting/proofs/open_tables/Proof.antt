@@ -4,7 +4,6 @@ use Rattle.paper.specs.Image.{front, setPages}
 use Rattle.paper.specs.Calls.{opened}
 use Rattle.granting.specs.Steps.{raised}
 use Rattle.granting.proofs.Fronts.{then}
-use native.Mathlib.Omega.{arith}
 use borrow.Author.Needs.{needs}
 use Rattle.granting.proofs.open_tables.Statement.{statement}
 use Rattle.granting.proofs.open_tables.Tie as tie

@@ -1,5 +1,4 @@
 -- `granting::raise_counter` meets its contract.
-use mathlib.Core.Path.{_∙_}
 use borrow.Author.Tests.{lt-ltb, le-ltb}
 use Rattle.paper.specs.Geometry.{noRegion}
 use Rattle.paper.specs.Image.{front, counter}

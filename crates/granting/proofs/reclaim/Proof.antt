@@ -3,7 +3,6 @@ use mathlib.Core.Path.{sym, _∙_}
 use borrow.Author.Tests.{eq-eqb, ne-eqb}
 use Rattle.paper.specs.Image.{front, owner}
 use Rattle.granting.proofs.Fronts.{unchanged}
-use native.Mathlib.Omega.{arith}
 use borrow.Author.Needs.{needs}
 use Rattle.granting.proofs.reclaim.Statement.{statement}
 use Rattle.granting.proofs.reclaim.Tie as tie

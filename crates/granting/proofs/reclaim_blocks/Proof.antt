@@ -1,6 +1,6 @@
 -- `granting::reclaim_blocks` meets its contract.
 use Prim.Native.Nat.{_-_, _≤_}
-use mathlib.Core.Path.{_≡_, refl, sym, _∙_}
+use mathlib.Core.Path.{_≡_, refl, _∙_}
 use lib.ListN.{length}
 use Rattle.laws.specs.Folds.{steps}
 use Rattle.laws.proofs.Folds.{steps-none, steps-more}

@@ -1,9 +1,7 @@
 -- `zero_in` meets its contract: before position p the image is that of a store of zeros, up to there.
-use Prim.Native.Nat.{ℕ, _+_, _-_, _*_, _≤_}
-use mathlib.Core.Path.{_≡_, refl, _∙_, ap, sym}
-use mathlib.Core.List.{List}
+use Prim.Native.Nat.{_+_, _-_, _≤_}
+use mathlib.Core.Path.{_≡_, refl, _∙_, ap}
 use lib.ListN.{length, length-replicate}
-use Rattle.laws.specs.Bytes.{splice}
 use Rattle.paper.specs.Index.{blockIn}
 use Rattle.paper.specs.Calls.{stretch}
 use Rattle.stretches.specs.Stretch.{blockFrom, endTouched}
