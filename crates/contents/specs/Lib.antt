@@ -1,1 +1,2 @@
+-- The refusal that load, store and look share.
 pub mod Refusal

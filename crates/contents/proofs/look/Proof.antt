@@ -8,7 +8,7 @@ use Rattle.paper.proofs.Counting.{book-bytes-bound}
 use Rattle.rules.specs.Facts.{Reads}
 use Rattle.rules.proofs.Outcomes.{look-empty, look-part}
 use Rattle.desk.proofs.Shared.{entered-readable}
-use Rattle.stretches.proofs.Right.{reads-indexed, reads-region}
+use Rattle.stretches.proofs.Right.{reads-region, reads-index}
 use Rattle.contents.proofs.Refusal.{read-accepted}
 use Rattle.contents.proofs.Calls.{look-slot, look-fits, look-shows}
 use native.Mathlib.Omega.{arith}
@@ -54,7 +54,7 @@ first-stretch-requires c κs =
     let R = reads (c .before .before) in
     let l = reads-region (a .g) (a .image .now) (a .index .now) (a .region .0) (a .offset .0) 1 R in
     let b = book-bytes-bound (a .g) (pagesOf (a .g) (front (a .g) (a .image .now)) (a .region .0)) (R .entered .geometry) (R .fits) in
-    ((reads-indexed (a .g) (a .image .now) (a .index .now) (a .region .0) (a .offset .0) 1 R, l), (look-slot (a .g) (a .image .now) (a .index .now) (a .region .0) (a .offset .0) R, omega (arith, R .within), omega (arith, R .within)))
+    ((reads-index (a .g) (a .image .now) (a .index .now) (a .region .0) (a .offset .0) 1 R .0, l), (look-slot (a .g) (a .image .now) (a .index .now) (a .region .0) (a .offset .0) R, omega (arith, R .within), omega (arith, R .within)))
 
 -- the stretch to the end of the book lies in the image
 fits : (c : tie.After-first-stretch) → c .first-stretch .result .at + c .first-stretch .result .bytes ≤ length (c .before .before .before .before .before .before .before .args .image .now)
