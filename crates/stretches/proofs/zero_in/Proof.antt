@@ -5,7 +5,7 @@ use lib.ListN.{length, length-replicate}
 use Rattle.paper.specs.Index.{blockIn}
 use Rattle.paper.specs.Calls.{stretch}
 use Rattle.stretches.specs.Stretch.{blockFrom, endTouched}
-use Rattle.stretches.proofs.Right.{Step, reads-indexed, reads-region, reads-bound, reads-need, reads-step}
+use Rattle.stretches.proofs.Right.{Step, reads-index, reads-bytes, reads-need, reads-step}
 use Rattle.stretches.proofs.Walks.{stretch-fits, writtenTo, written-none, written-more, written-all}
 use Rattle.stretches.proofs.Zeros.{zeros, zeros-part}
 use native.Mathlib.Omega.{arith}
@@ -20,19 +20,13 @@ abbrev μ-loop : tie.MeasureT-loop
 μ-loop g image₀ index offset n start first end p₀ image p = end - p
 
 start-in-requires : tie.Need-start-in-requires Inv-loop μ-loop
-start-in-requires c κs =
-    let s = c .before .before in
-    let a = s .args in
-    (reads-indexed (a .g) (a .image .now) (a .index .now) (a .r .0) (a .offset .0) (a .n) (s .pre), omega (arith, reads-region (a .g) (a .image .now) (a .index .now) (a .r .0) (a .offset .0) (a .n) (s .pre)))
+start-in-requires c κs = let a = c .before .before .args in reads-index (a .g) (a .image .now) (a .index .now) (a .r .0) (a .offset .0) (a .n) (c .before .before .pre)
 
 first-touched-requires : tie.Need-first-touched-requires Inv-loop μ-loop
 first-touched-requires c κs = search needs
 
 end-touched-requires : tie.Need-end-touched-requires Inv-loop μ-loop
-end-touched-requires c κs =
-    let s = c .before .before .before .before in
-    let b = reads-bound (s .args .g) (s .args .image .now) (s .args .index .now) (s .args .r .0) (s .args .offset .0) (s .args .n) (s .pre) in
-    (s .pre .entered .geometry, omega arith)
+end-touched-requires c κs = let a = c .before .before .before .before .args in reads-bytes (a .g) (a .image .now) (a .index .now) (a .r .0) (a .offset .0) (a .n) (c .before .before .before .before .pre)
 
 loop-holds : tie.Need-loop-holds Inv-loop μ-loop
 loop-holds c =
@@ -62,9 +56,9 @@ fits c =
 
 stretch-at-requires : tie.Need-stretch-at-requires Inv-loop μ-loop
 stretch-at-requires c κs =
-    let s = c .before .before .before .before .before .before .before in
-    let b = reads-bound (s .args .g) (s .args .image .now) (s .args .index .now) (s .args .r .0) (s .args .offset .0) (s .args .n) (s .pre) in
-    ((reads-indexed (s .args .g) (s .args .image .now) (s .args .index .now) (s .args .r .0) (s .args .offset .0) (s .args .n) (s .pre), step c .slot), (step c .touches, omega arith))
+    let a = c .before .before .before .before .before .before .before .args in
+    let R = c .before .before .before .before .before .before .before .pre in
+    ((reads-index (a .g) (a .image .now) (a .index .now) (a .r .0) (a .offset .0) (a .n) R .0, step c .slot), (step c .touches, reads-bytes (a .g) (a .image .now) (a .index .now) (a .r .0) (a .offset .0) (a .n) R .1))
 
 add-zero-part : tie.Need-add-zero-part Inv-loop μ-loop
 add-zero-part c =
