@@ -1,0 +1,33 @@
+-- "A host in C or Rust calls them with numbers and byte slices only": a geometry by number, and an answer as one number.
+use Prim.Native.Nat.{ℕ, _+_, _*_}
+use mathlib.Core.Bool.{cond}
+use mathlib.Core.List.{List}
+use lib.Dec.{eqb}
+use Rattle.paper.specs.declared.Geometry.{Geometry}
+use Rattle.paper.specs.declared.Answer.{Answer}
+use Rattle.paper.specs.Geometry.{bench, house}
+use Rattle.paper.specs.Outcomes.{numberOf, valueOf, State, Outcome}
+
+-- no geometry: refused with 1
+abbrev pub noGeometry : Geometry
+noGeometry = record { page = 0; pages = 0; blocks = 0; entries = 0 }
+
+-- geometry 0 is BENCH, 1 is HOUSE, any other number is refused with 1
+unfoldable pub geometryOf : ℕ → Geometry
+geometryOf n = cond (eqb n 0) bench (cond (eqb n 1) house noGeometry)
+
+-- refusal × 2^32 + value
+abbrev pub packed : Answer → ℕ
+packed a = numberOf a * 4294967296 + valueOf a
+
+-- all that a host sees of a call: its number, the buffer, and what is left in image and index
+pub record Seen : Type 0 where
+  pub number : ℕ
+  pub bytes : List ℕ
+  pub state : State
+
+abbrev pub seen : ℕ → List ℕ → State → Seen
+seen n bytes s = record { number = n; bytes = bytes; state = s }
+
+abbrev pub shown : Outcome → Seen
+shown o = seen (packed (o .answer)) (o .bytes) (o .state)

@@ -1,0 +1,140 @@
+// The calls for a host in C or Rust: numbers and byte slices only. Each is a line over the call of the same name.
+ghost use mathlib.Core.Path.{_≡_};
+ghost use mathlib.Core.List.{[]};
+ghost use Rattle.paper.specs.Calls.{lay, «open», grow, load, store, size, release, recover};
+ghost use Rattle.paper.specs.Outcomes.{lent, outcome};
+ghost use Rattle.host.specs.Host.{geometryOf, packed, seen, shown};
+use paper::Answer;
+use paper::Geometry;
+use paper::Offset;
+use paper::Pages;
+use paper::Region;
+
+// A number that names no geometry gives one that no call allows.
+fn geometry_of(n: u32) -> Geometry
+    ensures { λ g. ⌜ g ≡ geometryOf n ⌝ }
+{
+    if n == 0 {
+        return Geometry::BENCH;
+    }
+    if n == 1 {
+        return Geometry::HOUSE;
+    }
+    Geometry {
+        page: 0,
+        pages: 0,
+        blocks: 0,
+        entries: 0,
+    }
+}
+
+// A refusal's value is 0 and a value's refusal is 0, so nothing is added.
+fn pack(a: Answer) -> u64
+    ensures { λ n. ⌜ n ≡ packed a ⌝ }
+{
+    match a {
+        Answer::Done(v) => v,
+        Answer::Refused(k) => (k as u64) * 4294967296,
+    }
+}
+
+#[no_mangle]
+pub extern "C" fn book_lay(geometry: u32, image: &mut [u8], index: &mut [u8]) -> u64
+    ensures { λ n. ⌜ seen n [] (lent (now (image .exit)) (now (index .exit))) ≡ shown (outcome (geometryOf geometry) lay (lent (now (image .entry)) (now (index .entry)))) ⌝ }
+{
+    pack(laying::lay(geometry_of(geometry), image, index))
+}
+
+#[no_mangle]
+pub extern "C" fn book_open(geometry: u32, image: &mut [u8], index: &mut [u8]) -> u64
+    ensures { λ n. ⌜ seen n [] (lent (now (image .exit)) (now (index .exit))) ≡ shown (outcome (geometryOf geometry) «open» (lent (now (image .entry)) (now (index .entry)))) ⌝ }
+{
+    pack(books::open(geometry_of(geometry), image, index))
+}
+
+#[no_mangle]
+pub extern "C" fn book_grow(
+    geometry: u32,
+    image: &mut [u8],
+    index: &mut [u8],
+    region: u32,
+    pages: u64,
+) -> u64
+    ensures { λ n. ⌜ seen n [] (lent (now (image .exit)) (now (index .exit))) ≡ shown (outcome (geometryOf geometry) (grow region pages) (lent (now (image .entry)) (now (index .entry)))) ⌝ }
+{
+    pack(books::grow(
+        geometry_of(geometry),
+        image,
+        index,
+        Region(region),
+        Pages(pages),
+    ))
+}
+
+#[no_mangle]
+pub extern "C" fn book_load(
+    geometry: u32,
+    image: &[u8],
+    index: &[u8],
+    region: u32,
+    offset: u64,
+    buffer: &mut [u8],
+) -> u64
+    ensures { λ n. ⌜ seen n (now (buffer .exit)) (lent (now (image .entry)) (now (index .entry))) ≡ shown (outcome (geometryOf geometry) (load region offset (now (buffer .entry))) (lent (now (image .entry)) (now (index .entry)))) ⌝ }
+{
+    pack(contents::load(
+        geometry_of(geometry),
+        image,
+        index,
+        Region(region),
+        Offset(offset),
+        buffer,
+    ))
+}
+
+#[no_mangle]
+pub extern "C" fn book_store(
+    geometry: u32,
+    image: &mut [u8],
+    index: &[u8],
+    region: u32,
+    offset: u64,
+    bytes: &[u8],
+) -> u64
+    ensures { λ n. ⌜ seen n [] (lent (now (image .exit)) (now (index .entry))) ≡ shown (outcome (geometryOf geometry) (store region offset (now (bytes .entry))) (lent (now (image .entry)) (now (index .entry)))) ⌝ }
+{
+    pack(contents::store(
+        geometry_of(geometry),
+        image,
+        index,
+        Region(region),
+        Offset(offset),
+        bytes,
+    ))
+}
+
+#[no_mangle]
+pub extern "C" fn book_size(geometry: u32, image: &[u8], region: u32) -> u64
+    ensures { λ n. ⌜ seen n [] (lent (now (image .entry)) []) ≡ shown (outcome (geometryOf geometry) (size region) (lent (now (image .entry)) [])) ⌝ }
+{
+    pack(desk::size(geometry_of(geometry), image, Region(region)))
+}
+
+#[no_mangle]
+pub extern "C" fn book_release(
+    geometry: u32,
+    image: &mut [u8],
+    index: &mut [u8],
+    region: u32,
+) -> u64
+    ensures { λ n. ⌜ seen n [] (lent (now (image .exit)) (now (index .exit))) ≡ shown (outcome (geometryOf geometry) (release region) (lent (now (image .entry)) (now (index .entry)))) ⌝ }
+{
+    pack(books::release(geometry_of(geometry), image, index, Region(region)))
+}
+
+#[no_mangle]
+pub extern "C" fn book_recover(geometry: u32, image: &[u8], index: &mut [u8]) -> u64
+    ensures { λ n. ⌜ seen n [] (lent (now (image .entry)) (now (index .exit))) ≡ shown (outcome (geometryOf geometry) recover (lent (now (image .entry)) (now (index .entry)))) ⌝ }
+{
+    pack(recovery::recover(geometry_of(geometry), image, index))
+}
