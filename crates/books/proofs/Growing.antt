@@ -29,7 +29,7 @@ use Rattle.keeping.proofs.Growth.{grown-front}
 use Rattle.image.specs.Readable.{fronted}
 use Rattle.granting.specs.Grant.{Grantable}
 use Rattle.granting.proofs.Spare.{grantable}
-use Rattle.granting.proofs.Fronts.{front-is}
+use Rattle.image.proofs.Fronts.{front-is}
 use Rattle.books.specs.Room.{Growing}
 use Rattle.books.proofs.Left.{readable}
 

@@ -7,7 +7,6 @@ use mathlib.Core.List.{List, [], _∷_}
 use native.Mathlib.Omega.{arith}
 use native.Mathlib.Nat.{add-zero, div-add-mod', mod-lt, div-mul-le-self, div-eq-of-lt-le}
 use native.Mathlib.Decide.{ℕ-discrete}
-use borrow.Author.Tests.{not-false, ltb-false}
 use lib.ListN.{getD, length}
 use lib.Seq.{ext-getD}
 use Rattle.laws.proofs.Folds.{all-none, steps-none}
@@ -19,11 +18,10 @@ use Rattle.paper.specs.Index.{blockIn}
 use Rattle.paper.specs.Calls.{load, store, look, size, loaded, stored, lookBytes}
 use Rattle.paper.specs.Refusals.{touched, touchedRight, checks, refusal}
 use Rattle.paper.specs.Outcomes.{numberOf, valueOf, State, Outcome, lent, gives, accepted, buffer, outcome}
-use Rattle.paper.proofs.Counting.{allowed-facts, block-positive}
+use Rattle.paper.proofs.Counting.{block-positive}
 use Rattle.rules.specs.Facts.{Reads}
 use Rattle.rules.proofs.Touched.{touched-none, touched-some}
-use Rattle.rules.proofs.First.{first-none, header-facts}
-use Rattle.rules.proofs.Checks.{load-accepted, accepts-load, load-refusal, store-refusal}
+use Rattle.rules.proofs.Checks.{load-accepted, accepts-load, load-refusal, store-refusal, size-accepted}
 use Rattle.rules.proofs.Outcomes.{outcome-done, outcome-refused, outcome-number, oneByte, look-empty, look-part}
 use Rattle.keeping.proofs.Loaded.{length-loaded, getD-loaded, loaded-none, loaded-same}
 use Rattle.keeping.proofs.Stored.{stored-touched}
@@ -147,24 +145,13 @@ module _ (g : Geometry) (s : State) (r : ℕ) (sized : numberOf (outcome g (size
   pages = rw (outcome-done g (size r) s fine)
 
   none : Reads g (s .image) (s .index) r o 0
-  unfolding checks touchedRight
+  unfolding touchedRight
   none =
-      let f1 = first-none 1 _ _ (omega arith) fine in
-      let f3 = first-none 3 _ _ (omega arith) (f1 .1) in
-      let f4 = first-none 4 _ _ (omega arith) (f3 .1) in
-      let f5 = first-none 5 _ _ (omega arith) (f4 .1) in
-      let f8 = first-none 8 _ _ (omega arith) (f5 .1) in
-      let f6 = first-none 6 _ _ (omega arith) (f8 .1) in
+      let f = size-accepted g (s .image) (s .index) r fine in
       record {
-        entered = record {
-          geometry = allowed-facts g (not-false _ (f1 .0));
-          indexed = indexed;
-          long = ltb-false _ _ (f3 .0);
-          header = header-facts g t (not-false _ (f4 .0));
-          tail = ltb-false _ _ (f5 .0);
-        };
-        usable = not-false _ (f8 .0);
-        fits = ltb-false _ _ (f6 .0);
+        entered = record { geometry = f .0; indexed = indexed; long = f .1; header = f .2; tail = f .3 };
+        usable = f .4;
+        fits = f .5;
         within = rw (add-zero, ← pages) within;
         right = rw (touched-none g o 0 refl) (all-none _);
       }

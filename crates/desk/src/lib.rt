@@ -6,7 +6,7 @@ ghost use Rattle.paper.specs.Calls.{size};
 ghost use Rattle.paper.specs.Refusals.{usable};
 ghost use Rattle.paper.specs.Outcomes.{lent, gives, outcome};
 ghost use Rattle.image.specs.Readable.{Readable};
-ghost use Rattle.desk.specs.Shared.{Sound, Early, EarlyIndexed, Book};
+ghost use Rattle.desk.specs.Shared.{Early, EarlyIndexed, Book};
 use paper::Answer;
 use paper::Geometry;
 use paper::Region;

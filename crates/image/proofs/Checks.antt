@@ -1,13 +1,13 @@
 -- The rules' sentences, as the passes over the tables ask them.
-use Prim.Native.Nat.{ℕ, _+_, _≤_, _<_}
+use Prim.Native.Nat.{ℕ, _+_, _<_}
 use mathlib.Core.Bool.{Bool, true, false}
 use mathlib.Core.Path.{_≡_, refl, sym}
 use mathlib.Core.List.{List}
 use native.Mathlib.Omega.{arith}
 use borrow.Author.Tests.{eqb-true, eqb-false, eq-eqb, ne-eqb, le-leb, le-ltb}
 use lib.Dec.{eqb, leb, ltb}
-use Rattle.laws.specs.Folds.{allFrom, sumBelow}
-use Rattle.laws.proofs.Folds.{all-from, from-all, sum-more, sum-mono}
+use Rattle.laws.specs.Folds.{sumBelow}
+use Rattle.laws.proofs.Folds.{sum-more, sum-mono}
 use Rattle.paper.specs.declared.Geometry.{Geometry}
 use Rattle.paper.specs.Geometry.{mostBookPages}
 use Rattle.paper.specs.Image.{Size, notOpen, holds, taken, owner, place, sizeOf, pagesOf, isOpen, needOf}

@@ -18,7 +18,8 @@ use Rattle.paper.specs.declared.Geometry.{Geometry}
 use Rattle.paper.specs.Image.{taken, owner, place, names, needOf}
 use Rattle.paper.specs.WellFormed.{alone}
 use Rattle.paper.specs.Index.{startOf}
-use Rattle.rules.proofs.Counting.{slotFor, slots-apart}
+use Rattle.rules.proofs.Counting.{slots-apart}
+use Rattle.rules.specs.Facts.{slotFor}
 use Rattle.index.specs.Slotted.{Slotted}
 use Rattle.index.specs.Repeats.{within, unseen, marked, free, apart, StartsFrom}
 use Rattle.index.proofs.Slots.{slot-below}

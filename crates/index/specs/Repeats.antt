@@ -9,7 +9,7 @@ use Rattle.laws.specs.Folds.{allBelow}
 use Rattle.paper.specs.declared.Geometry.{Geometry}
 use Rattle.paper.specs.Image.{taken}
 use Rattle.paper.specs.Index.{startOf}
-use Rattle.rules.proofs.Counting.{slotFor}
+use Rattle.rules.specs.Facts.{slotFor}
 use Rattle.index.specs.declared.Window.{Window}
 
 -- s is one of the slots from `from` up to, and without, `to`

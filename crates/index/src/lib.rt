@@ -9,7 +9,7 @@ ghost use Rattle.paper.specs.Image.{front, taken, owner};
 ghost use Rattle.paper.specs.Index.{indexOf, startOf, startIn, slotIn};
 ghost use Rattle.paper.specs.WellFormed.{alone};
 ghost use Rattle.rules.specs.Facts.{Rules};
-ghost use Rattle.rules.proofs.Counting.{slotFor};
+ghost use Rattle.rules.specs.Facts.{slotFor};
 ghost use Rattle.image.specs.Readable.{Readable};
 ghost use Rattle.index.specs.Slotted.{Tabled};
 ghost use Rattle.index.specs.Witnessed.{Indexed, Starts, Spare, Witness, startRight, blockRight, spareRight, witnessed};

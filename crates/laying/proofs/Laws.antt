@@ -5,14 +5,13 @@ use mathlib.Core.Logic.{_≢_}
 use mathlib.Core.Path.{_≡_, sym, ap₂, _∙_}
 use mathlib.Core.List.{List, [], _++_, append-assoc}
 use native.Mathlib.Omega.{arith}
-use native.Mathlib.Nat.{zero-add}
 use borrow.Author.Tests.{eq-eqb, ne-eqb, lt-ltb, le-ltb}
-use lib.ListN.{drop, length, length-append, replicate}
+use lib.ListN.{length, length-append, replicate}
 use Rattle.laws.specs.Folds.{joinBelow}
-use Rattle.laws.specs.Bytes.{le, splice, put, pack}
+use Rattle.laws.specs.Bytes.{le, splice, put}
 use Rattle.laws.proofs.Tests.{not-of-true, not-of-false}
 use Rattle.laws.proofs.Lists.{length-rows, splice-then, splice-all, splice-start}
-use Rattle.laws.proofs.Bytes.{length-le, pack-append, pack-rows, pack-same}
+use Rattle.laws.proofs.Bytes.{length-le, pack-append, pack-same}
 use Rattle.paper.specs.declared.Geometry.{Geometry}
 use Rattle.paper.specs.declared.Answer.the-variants.{Done}
 use Rattle.paper.specs.Geometry.{headerBytes, markerAt, versionAt, takenAt, counterAt, blankAt, version, fixedRegions, noBlock, blockBytes, allowed, indexBytes, sizeAt, frontBytes, slotAt}

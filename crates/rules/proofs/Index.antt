@@ -21,7 +21,8 @@ use Rattle.paper.specs.Image.{taken, owner, place, needOf, blockOf}
 use Rattle.paper.specs.Index.{startOf, blocksOf, indexNumbers, indexOf, startIn, slotIn, blockIn}
 use Rattle.rules.specs.Facts.{Rules}
 use Rattle.rules.proofs.Facts.{Once, open-below, needs-open}
-use Rattle.rules.proofs.Counting.{slotFor, slots-apart, slot-inside, block-below, block-at}
+use Rattle.rules.proofs.Counting.{slots-apart, slot-inside, block-below, block-at}
+use Rattle.rules.specs.Facts.{slotFor}
 use Rattle.laws.proofs.Known.{Bytes, bytes-pack, bytes-known}
 
 module _ (g : Geometry) (t : List ℕ) where

@@ -6,7 +6,7 @@ use Rattle.paper.specs.Geometry.{need}
 use Rattle.paper.specs.Image.{front, setPages}
 use Rattle.paper.specs.Calls.{granted, newBlocks, grownFront}
 use Rattle.paper.proofs.Counting.{book-pages-bound}
-use Rattle.granting.proofs.Fronts.{still-readable, then}
+use Rattle.image.proofs.Fronts.{still-readable, then}
 use Rattle.books.proofs.Left.{readable}
 use Rattle.books.proofs.Growing.{inside, need-up, each-grantable, pages-most}
 use native.Mathlib.Omega.{arith}

@@ -1,7 +1,6 @@
 -- The loop stays within both, and ends.
 use Prim.Native.Nat.{_-_, _≤_}
 use lib.ListN.{length}
-use native.Mathlib.Omega.{arith}
 use borrow.Author.Needs.{needs}
 use Rattle.cases.proofs.has.Statement.{statement}
 use Rattle.cases.proofs.has.Tie as tie

@@ -1,6 +1,7 @@
 use Prim.Native.Nat.{_+_, _*_}
 use Rattle.paper.specs.Image.{front, setEntry, setPages}
-use Rattle.granting.proofs.Fronts.{then, pages-bound}
+use Rattle.image.proofs.Fronts.{then}
+use Rattle.paper.proofs.Counting.{pages-bound}
 use native.Mathlib.Omega.{arith}
 use borrow.Author.Needs.{needs}
 use Rattle.granting.proofs.give.Statement.{statement}

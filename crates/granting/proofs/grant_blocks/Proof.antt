@@ -7,7 +7,7 @@ use Rattle.laws.proofs.Folds.{steps-none, steps-more}
 use Rattle.paper.specs.Image.{front}
 use Rattle.paper.specs.Calls.{granted}
 use Rattle.image.specs.Readable.{fronted}
-use Rattle.granting.proofs.Fronts.{still-readable, unchanged, front-is, then}
+use Rattle.image.proofs.Fronts.{still-readable, unchanged, front-is, then}
 use native.Mathlib.Omega.{arith}
 use borrow.Author.Needs.{needs}
 use Rattle.granting.proofs.grant_blocks.Statement.{statement}

@@ -3,7 +3,7 @@ use Prim.Native.Nat.{_+_, _*_}
 use mathlib.Core.Path.{_∙_}
 use Rattle.paper.specs.Image.{front, setTaken, setEntry, setPages}
 use Rattle.paper.specs.Calls.{grantedNew}
-use Rattle.granting.proofs.Fronts.{then}
+use Rattle.image.proofs.Fronts.{then}
 use borrow.Author.Needs.{needs}
 use Rattle.granting.proofs.grant_new.Statement.{statement}
 use Rattle.granting.proofs.grant_new.Tie as tie

@@ -4,7 +4,8 @@ use mathlib.Core.Path.{_∙_}
 use Rattle.paper.specs.Geometry.{reclaimed}
 use Rattle.paper.specs.Image.{front, setEntry, setPages}
 use Rattle.paper.specs.Calls.{grantedReclaimed}
-use Rattle.granting.proofs.Fronts.{still-readable, then, pages-bound}
+use Rattle.image.proofs.Fronts.{still-readable, then}
+use Rattle.paper.proofs.Counting.{pages-bound}
 use native.Mathlib.Omega.{arith}
 use borrow.Author.Needs.{needs}
 use Rattle.granting.proofs.grant_reclaimed.Statement.{statement}

@@ -1,6 +1,5 @@
 -- `host::book_grow` meets its contract, by that of `grow`.
 use Rattle.host.proofs.Seen.{host-seen}
-use native.Mathlib.Omega.{arith}
 use borrow.Author.Needs.{needs}
 use Rattle.host.proofs.book_grow.Statement.{statement}
 use Rattle.host.proofs.book_grow.Tie as tie

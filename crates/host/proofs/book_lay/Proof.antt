@@ -1,6 +1,5 @@
 -- `host::book_lay` meets its contract, by that of `lay`.
 use Rattle.host.proofs.Seen.{host-seen}
-use native.Mathlib.Omega.{arith}
 use borrow.Author.Needs.{needs}
 use Rattle.host.proofs.book_lay.Statement.{statement}
 use Rattle.host.proofs.book_lay.Tie as tie

@@ -1,6 +1,5 @@
 -- `host::book_load` meets its contract, by that of `load`.
 use Rattle.host.proofs.Seen.{host-seen}
-use native.Mathlib.Omega.{arith}
 use borrow.Author.Needs.{needs}
 use Rattle.host.proofs.book_load.Statement.{statement}
 use Rattle.host.proofs.book_load.Tie as tie

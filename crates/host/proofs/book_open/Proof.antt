@@ -1,6 +1,5 @@
 -- `host::book_open` meets its contract, by that of `open`.
 use Rattle.host.proofs.Seen.{host-seen}
-use native.Mathlib.Omega.{arith}
 use borrow.Author.Needs.{needs}
 use Rattle.host.proofs.book_open.Statement.{statement}
 use Rattle.host.proofs.book_open.Tie as tie

@@ -1,6 +1,5 @@
 -- `host::book_recover` meets its contract, by that of `recover`.
 use Rattle.host.proofs.Seen.{host-seen}
-use native.Mathlib.Omega.{arith}
 use borrow.Author.Needs.{needs}
 use Rattle.host.proofs.book_recover.Statement.{statement}
 use Rattle.host.proofs.book_recover.Tie as tie

@@ -1,6 +1,5 @@
 -- `host::book_release` meets its contract, by that of `release`.
 use Rattle.host.proofs.Seen.{host-seen}
-use native.Mathlib.Omega.{arith}
 use borrow.Author.Needs.{needs}
 use Rattle.host.proofs.book_release.Statement.{statement}
 use Rattle.host.proofs.book_release.Tie as tie

@@ -1,6 +1,5 @@
 -- `host::book_size` meets its contract, by that of `size`.
 use Rattle.host.proofs.Seen.{host-seen}
-use native.Mathlib.Omega.{arith}
 use borrow.Author.Needs.{needs}
 use Rattle.host.proofs.book_size.Statement.{statement}
 use Rattle.host.proofs.book_size.Tie as tie

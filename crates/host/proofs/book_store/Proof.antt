@@ -1,6 +1,5 @@
 -- `host::book_store` meets its contract, by that of `store`.
 use Rattle.host.proofs.Seen.{host-seen}
-use native.Mathlib.Omega.{arith}
 use borrow.Author.Needs.{needs}
 use Rattle.host.proofs.book_store.Statement.{statement}
 use Rattle.host.proofs.book_store.Tie as tie

@@ -1,8 +1,6 @@
 -- `host::geometry_of` meets its contract.
 use borrow.Author.Tests.{eq-eqb, ne-eqb}
 use Rattle.host.specs.Host.{geometryOf}
-use native.Mathlib.Omega.{arith}
-use borrow.Author.Needs.{needs}
 use Rattle.host.proofs.geometry_of.Statement.{statement}
 use Rattle.host.proofs.geometry_of.Tie as tie
 

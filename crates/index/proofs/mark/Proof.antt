@@ -1,6 +1,6 @@
 -- `index::mark` meets its contract: a block of a region before or after the window's stands outside of it.
 use Rattle.paper.specs.Image.{front}
-use Rattle.rules.proofs.Counting.{slotFor}
+use Rattle.rules.specs.Facts.{slotFor}
 use Rattle.index.proofs.Repeats.{is-before, is-after, is-within, passed-by, looked-at, slot-before, slot-after}
 use native.Mathlib.Omega.{arith}
 use borrow.Author.Needs.{needs}

@@ -28,7 +28,7 @@ cast-none c = search needs
 loop-holds : tie.Need-loop-holds Inv-loop μ-loop
 loop-holds c =
     let a = c .before .before .args in
-    (omega arith, refl, rw join-none (sym (splice-nil headerBytes (a .image .now) (omega arith))))
+    (omega arith, refl, rw join-none (sym (splice-nil headerBytes (a .image .now))))
 
 cast-t12 : tie.Need-cast-t12 Inv-loop μ-loop
 cast-t12 c = search needs

@@ -22,7 +22,7 @@ abbrev μ-loop : tie.MeasureT-loop
 loop-holds : tie.Need-loop-holds Inv-loop μ-loop
 loop-holds c =
     let a = c .before .args in
-    (omega arith, refl, rw join-none (sym (splice-nil (sizeAt (a .g) 0) (a .image .now) (omega arith))))
+    (omega arith, refl, rw join-none (sym (splice-nil (sizeAt (a .g) 0) (a .image .now))))
 
 cast-t10 : tie.Need-cast-t10 Inv-loop μ-loop
 cast-t10 c = search needs

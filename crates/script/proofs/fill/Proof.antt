@@ -9,8 +9,6 @@ use native.Mathlib.Omega.{arith}
 use borrow.Author.Needs.{needs}
 use Rattle.script.proofs.fill.Statement.{statement}
 use Rattle.script.proofs.fill.Tie as tie
-use Rattle.script.proofs.fill.Reads as reads
-use Rattle.script.proofs.fill.Lts as lts
 
 abbrev Inv-loop : tie.InvT-loop
 Inv-loop bytes₀ b i₀ i-end bytes i = (i ≤ length bytes₀) × (length bytes ≡ length bytes₀) × (bytes ≡ replicate i b ++ drop i bytes₀)
@@ -18,34 +16,27 @@ Inv-loop bytes₀ b i₀ i-end bytes i = (i ≤ length bytes₀) × (length byte
 abbrev μ-loop : tie.MeasureT-loop
 μ-loop bytes₀ b i₀ i-end bytes i = length bytes₀ - i
 
--- src/main.rt:51:5
 loop-holds : tie.Need-loop-holds Inv-loop μ-loop
 loop-holds c = search needs
 
--- src/main.rt:52:9
 slice-write-bytes : tie.Need-slice-write-bytes Inv-loop μ-loop
 slice-write-bytes c = search needs
 
--- src/main.rt:51:9
 add-i : tie.Need-add-i Inv-loop μ-loop
 add-i c = search needs
 
--- src/main.rt:51:5
 loop-less : tie.Need-loop-less Inv-loop μ-loop
 loop-less c = search needs
 
--- src/main.rt:51:5
 loop-again : tie.Need-loop-again Inv-loop μ-loop
 loop-again c =
     let x = c .before .loop in
     let a = c .before .before .args in
     (search needs, search needs, ap (λ (l : List ℕ). set l (x .i) (a .b)) (x .inv .2) ∙ fill-more (x .i) (a .b) (a .bytes .now) (omega arith))
 
--- src/main.rt:48:1
 same-length : tie.Need-same-length Inv-loop μ-loop
 same-length c = search needs
 
--- src/main.rt:48:1
 returns : tie.Need-returns Inv-loop μ-loop
 returns c =
     let x = c .before .loop in

@@ -8,8 +8,6 @@ use native.Mathlib.Omega.{arith}
 use borrow.Author.Needs.{needs}
 use Rattle.script.proofs.sum.Statement.{statement}
 use Rattle.script.proofs.sum.Tie as tie
-use Rattle.script.proofs.sum.Reads as reads
-use Rattle.script.proofs.sum.Lts as lts
 
 abbrev Inv-loop : tie.InvT-loop
 Inv-loop bytes total₀ i₀ i-end total i =
@@ -18,31 +16,24 @@ Inv-loop bytes total₀ i₀ i-end total i =
 abbrev μ-loop : tie.MeasureT-loop
 μ-loop bytes total₀ i₀ i-end total i = length bytes - i
 
--- src/main.rt:42:5
 loop-holds : tie.Need-loop-holds Inv-loop μ-loop
 loop-holds c = (search needs, search needs, sym (sum-none _))
 
--- src/main.rt:43:18
 shared-slice-read-total : tie.Need-shared-slice-read-total Inv-loop μ-loop
 shared-slice-read-total c = search needs
 
--- src/main.rt:43:18
 cast-total : tie.Need-cast-total Inv-loop μ-loop
 cast-total c = omega (arith, c .shared-slice-known .given (c .before .before .loop .i))
 
--- src/main.rt:43:9
 add-total : tie.Need-add-total Inv-loop μ-loop
 add-total c = omega (arith, c .shared-slice-known .given (c .before .before .loop .i))
 
--- src/main.rt:42:9
 add-i : tie.Need-add-i Inv-loop μ-loop
 add-i c = search needs
 
--- src/main.rt:42:5
 loop-less : tie.Need-loop-less Inv-loop μ-loop
 loop-less c = search needs
 
--- src/main.rt:42:5
 loop-again : tie.Need-loop-again Inv-loop μ-loop
 loop-again c =
     let x = c .before .before .loop in
@@ -50,7 +41,6 @@ loop-again c =
     let b = c .shared-slice-known .given (x .i) in
     (omega arith, omega (arith, b), ap (λ (n : ℕ). n + f (x .i)) (x .inv .2) ∙ sym (sum-more (x .i) f))
 
--- src/main.rt:37:1
 returns : tie.Need-returns Inv-loop μ-loop
 returns c =
     let x = c .before .loop in

@@ -7,7 +7,7 @@ use Rattle.paper.specs.Calls.{stretch}
 use Rattle.stretches.specs.Stretch.{blockFrom, endTouched}
 use Rattle.stretches.proofs.Right.{Step, reads-index, reads-bytes, reads-need, reads-step}
 use Rattle.stretches.proofs.Walks.{stretch-fits, writtenTo, written-none, written-more, written-all}
-use Rattle.stretches.proofs.Zeros.{zeros, zeros-part}
+use Rattle.laws.proofs.Lists.{zeros, zeros-part}
 use native.Mathlib.Omega.{arith}
 use borrow.Author.Needs.{needs}
 use Rattle.stretches.proofs.zero_in.Statement.{statement}
