@@ -1,21 +1,25 @@
 -- What a host sees of a call, from the call's own promise.
 use Prim.Native.Nat.{ℕ, _/_, _%_, _≤_, _<_}
-use mathlib.Core.Path.{_≡_, sym, _∙_, ap}
+use mathlib.Core.Bool.{true, not}
+use mathlib.Core.Logic.{_≢_}
+use mathlib.Core.Path.{_≡_, refl, sym, _∙_, ap}
+use borrow.Author.Tests.{ne-eqb}
 use mathlib.Core.List.{List}
 use native.Mathlib.Omega.{arith}
 use native.Mathlib.Decide.{ℕ-discrete}
 use lib.Arith.{digits-div, digits-mod}
 use Rattle.paper.specs.declared.Geometry.{Geometry}
 use Rattle.paper.specs.declared.Answer.{Answer}
-use Rattle.paper.specs.Geometry.{Allowed, mostBookPages}
+use Rattle.paper.specs.Geometry.{blockBytes, allowed, Allowed, mostBookPages}
 use Rattle.paper.specs.Image.{front, pagesOf}
 use Rattle.paper.specs.Calls.{Call, lay, «open», grow, load, store, look, size, release, recover}
-use Rattle.paper.specs.Refusals.{refusal}
+use Rattle.paper.specs.Refusals.{checks, refusal}
 use Rattle.paper.specs.Outcomes.{numberOf, valueOf, State, gives, accepted, outcome}
 use Rattle.paper.proofs.Counting.{book-pages-bound}
 use Rattle.rules.proofs.Checks.{usable-facts, open-accepted, grow-accepted, size-accepted}
-use Rattle.rules.proofs.Outcomes.{outcome-done, outcome-refused}
-use Rattle.host.specs.Host.{packed, Seen, seen, shown}
+use Rattle.rules.proofs.First.{first-halt}
+use Rattle.rules.proofs.Outcomes.{outcome-done, outcome-refused, outcome-number}
+use Rattle.host.specs.Host.{noGeometry, geometryOf, packed, Seen, seen, shown}
 
 -- the number is the answer's, the geometry is the one named, and the call kept its promise
 pub host-seen : (n : ℕ) (a : Answer) (bytes : List ℕ) (s : State) (g h : Geometry) (c : Call) (t : State)
@@ -63,3 +67,25 @@ module _ (g : Geometry) (s : State) where
   number-apart c =
       let l = value-below c in
       (digits-div (numberOf (outcome g c s .answer)) l, digits-mod (numberOf (outcome g c s .answer)) l)
+
+-- ---- a number that names no geometry is refused with 1, whatever the call
+module _ (s : State) where
+  not-there : not (allowed noGeometry) ≡ true
+  unfolding allowed blockBytes
+  not-there = refl
+
+  no-geometry : (c : Call) → refusal noGeometry (s .image) (s .index) c ≡ 1
+  unfolding checks
+  no-geometry lay = first-halt 1 _ _ not-there
+  no-geometry «open» = first-halt 1 _ _ not-there
+  no-geometry (grow r n) = first-halt 1 _ _ not-there
+  no-geometry (load r o b) = first-halt 1 _ _ not-there
+  no-geometry (store r o b) = first-halt 1 _ _ not-there
+  no-geometry (look r o) = first-halt 1 _ _ not-there
+  no-geometry (size r) = first-halt 1 _ _ not-there
+  no-geometry (release r) = first-halt 1 _ _ not-there
+  no-geometry recover = first-halt 1 _ _ not-there
+
+  pub other-number : (n : ℕ) → n ≢ 0 → n ≢ 1 → (c : Call) → numberOf (outcome (geometryOf n) c s .answer) ≡ 1
+  unfolding geometryOf
+  other-number n a b c = outcome-number (geometryOf n) c s ∙ rw (ne-eqb n 0 a, ne-eqb n 1 b) (no-geometry c)

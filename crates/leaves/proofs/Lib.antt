@@ -1,1 +1,1 @@
--- The leaf's proof stands in a folder of its own.
+pub mod Settled
