@@ -1,28 +1,25 @@
 -- A growth: its numbers are small, each grant is possible, the new pages can be reached, and zeros in them are what the paper tells.
-use Prim.Native.Nat.{ℕ, _+_, _*_, _/_, _≤_, _<_}
+use Prim.Native.Nat.{ℕ, _+_, _*_, _≤_, _<_}
 use mathlib.Core.Bool.{true}
 use mathlib.Core.Path.{_≡_, _∙_}
 use mathlib.Core.List.{List}
 use native.Mathlib.Omega.{arith}
 use native.Mathlib.Nat.{add-mul}
-use borrow.Author.Tests.{eq-eqb, ne-eqb, lt-ltb}
+use borrow.Author.Tests.{ne-eqb}
 use lib.ListN.{length, replicate}
 use Rattle.laws.specs.Folds.{steps}
-use Rattle.laws.proofs.Tests.{and-true}
-use Rattle.laws.proofs.Folds.{below-all}
 use Rattle.paper.specs.declared.Geometry.{Geometry}
-use Rattle.paper.specs.Geometry.{blockBytes, Allowed, need, capacity, mostBookPages}
+use Rattle.paper.specs.Geometry.{Allowed, need, capacity, mostBookPages}
 use Rattle.paper.specs.Image.{front, taken, pagesOf, isOpen, needOf, blockOf}
-use Rattle.paper.specs.Index.{indexOf, startIn, blockIn}
+use Rattle.paper.specs.Index.{indexOf, blockIn}
 use Rattle.paper.specs.Calls.{granted, newBlocks, grownFront, grown, stored}
-use Rattle.paper.specs.Refusals.{usable, rightAt, touched, touchedRight}
+use Rattle.paper.specs.Refusals.{usable}
 use Rattle.paper.proofs.Counting.{capacity-blocks, need-mono}
 use Rattle.rules.specs.Facts.{Rules, Formed, Reads, callable}
-use Rattle.rules.proofs.Facts.{open-below, need-open}
-use Rattle.rules.proofs.Counting.{block-below, block-owner, block-place}
-use Rattle.rules.proofs.Index.{length-index, block-read, slot-fits}
+use Rattle.rules.proofs.Facts.{open-below}
+use Rattle.rules.proofs.Index.{length-index, block-read}
 use Rattle.rules.proofs.Checks.{usable-facts, open-usable}
-use Rattle.rules.proofs.Touched.{touched-below}
+use Rattle.rules.proofs.Touched.{touched-recovered}
 use Rattle.keeping.proofs.Stored.{stored-ext}
 use Rattle.keeping.proofs.Grow.{GrownTo, grownFront-to}
 use Rattle.keeping.proofs.Growth.{grown-front}
@@ -94,19 +91,10 @@ module _ (g : Geometry) (image index : List ℕ) (r n : ℕ) (W : Growing g imag
     block : (p : ℕ) → p < needOf g u r → blockIn g index′ r p ≡ blockOf g u r p
     block p h = rw d-u (block-read g A u R bound r p h)
 
-    right : (p : ℕ) → p < needOf g u r → rightAt g u index′ r p ≡ true
-    unfolding rightAt
-    right p h =
-        let fits : startIn g index′ r + p < g .blocks = rw d-u (slot-fits g A u R bound r p h) in
-        and-true
-        (and-true (lt-ltb _ _ fits) (rw (block p h) (lt-ltb _ _ (block-below g u R r p h))))
-        (rw (block p h) (and-true (eq-eqb _ _ (block-owner g u R r p h)) (eq-eqb _ _ (block-place g u R r p h))))
-
     within : pagesOf g t r * g .page + n * g .page ≤ pagesOf g u r * g .page
     within = rw (grows .size, add-mul) (omega arith)
 
     pub new-pages : Reads g later index′ r (pagesOf g (front g image) r * g .page) (n * g .page)
-    unfolding touchedRight
     new-pages = record {
       entered = record {
         geometry = A;
@@ -118,10 +106,7 @@ module _ (g : Geometry) (image index : List ℕ) (r n : ℕ) (W : Growing g imag
       usable = rw f (open-usable g u r R (grows .formed .header) mine open-u);
       fits = rw f (R .fits r open-u);
       within = rw f within;
-      right = rw f
-          (below-all (touched g (pagesOf g t r * g .page) (n * g .page)) (λ k. rightAt g u index′ r (pagesOf g t r * g .page / blockBytes g + k))
-          (λ k h. right (pagesOf g t r * g .page / blockBytes g + k)
-          (rw (need-open g u r open-u) (touched-below g A (pagesOf g t r * g .page) (n * g .page) (pagesOf g u r) k within h))));
+      right = rw (f, d-u) (touched-recovered g A u R bound r open-u (pagesOf g t r * g .page) (n * g .page) within);
     }
 
     pub zeroed : 0 < n → stored g (blockIn g index′ r) (needOf g (front g later) r) (pagesOf g (front g image) r * g .page) (replicate (n * g .page) 0) later
