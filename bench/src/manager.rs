@@ -2,14 +2,10 @@
 
 use jaaturbal::calls;
 
-use crate::plain;
+use crate::plain::{self, packed};
 
 /// The geometry's number.
 const HOUSE: u32 = 1;
-
-fn plainly(answer: Result<u64, u64>) -> u64 {
-    answer.unwrap_or_else(|refusal| refusal << 32)
-}
 
 /// A load or a store.
 pub type ByteCall = fn(image: &mut [u8], index: &[u8], region: u32, offset: u64, buffer: &mut [u8]) -> u64;
@@ -28,36 +24,36 @@ pub struct Both<Call> {
 pub const LOAD: Both<ByteCall> = Both {
     name: "load",
     proved: |image, index, region, offset, buffer| calls::load(HOUSE, image, index, region, offset, buffer),
-    plain: |image, index, region, offset, buffer| plainly(plain::load(HOUSE, image, index, region, offset, buffer)),
+    plain: |image, index, region, offset, buffer| packed(plain::load(HOUSE, image, index, region, offset, buffer)),
 };
 
 pub const STORE: Both<ByteCall> = Both {
     name: "store",
     proved: |image, index, region, offset, bytes| calls::store(HOUSE, image, index, region, offset, bytes),
-    plain: |image, index, region, offset, bytes| plainly(plain::store(HOUSE, image, index, region, offset, bytes)),
+    plain: |image, index, region, offset, bytes| packed(plain::store(HOUSE, image, index, region, offset, bytes)),
 };
 
 pub const OPEN: Both<TableCall> = Both {
     name: "open",
     proved: |image, index, _| calls::open(HOUSE, image, index),
-    plain: |image, index, _| plainly(plain::open(HOUSE, image, index)),
+    plain: |image, index, _| packed(plain::open(HOUSE, image, index)),
 };
 
 /// One page, for which the book needs a new block.
 pub const GROW: Both<TableCall> = Both {
     name: "grow",
     proved: |image, index, region| calls::grow(HOUSE, image, index, region, 1),
-    plain: |image, index, region| plainly(plain::grow(HOUSE, image, index, region, 1)),
+    plain: |image, index, region| packed(plain::grow(HOUSE, image, index, region, 1)),
 };
 
 pub const RELEASE: Both<TableCall> = Both {
     name: "release",
     proved: |image, index, region| calls::release(HOUSE, image, index, region),
-    plain: |image, index, region| plainly(plain::release(HOUSE, image, index, region)),
+    plain: |image, index, region| packed(plain::release(HOUSE, image, index, region)),
 };
 
 pub const RECOVER: Both<TableCall> = Both {
     name: "recover",
     proved: |image, index, _| calls::recover(HOUSE, image, index),
-    plain: |image, index, _| plainly(plain::recover(HOUSE, image, index)),
+    plain: |image, index, _| packed(plain::recover(HOUSE, image, index)),
 };

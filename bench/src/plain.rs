@@ -4,7 +4,7 @@
 
 use std::ops::Range;
 
-use jaaturbal_model::paper::{Call, Lent};
+use jaaturbal_model::paper::{Call, Lent, VALUE_BITS};
 
 const FIXED_REGIONS: usize = 16;
 const NOT_OPEN: u64 = u64::MAX;
@@ -438,10 +438,15 @@ pub fn store(geometry: u32, image: &mut [u8], index: &[u8], region: u32, offset:
     Ok(0)
 }
 
+/// The one number that a host is answered.
+pub fn packed(answer: Answer<u64>) -> u64 {
+    answer.unwrap_or_else(|refusal| refusal << VALUE_BITS)
+}
+
 /// The calls by one door, as the comparison with the model makes them.
 pub fn make(geometry: u32, call: Call, lent: Lent<'_>) -> u64 {
     let Lent { image, index, buffer } = lent;
-    let answer = match call {
+    packed(match call {
         Call::Lay => lay(geometry, image, index),
         Call::Open => open(geometry, image, index),
         Call::Grow { region, pages } => grow(geometry, image, index, region, pages),
@@ -450,6 +455,5 @@ pub fn make(geometry: u32, call: Call, lent: Lent<'_>) -> u64 {
         Call::Size { region } => size(geometry, image, region),
         Call::Release { region } => release(geometry, image, index, region),
         Call::Recover => recover(geometry, image, index),
-    };
-    answer.unwrap_or_else(|refusal| refusal << 32)
+    })
 }

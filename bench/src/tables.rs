@@ -3,7 +3,7 @@
 use std::cell::RefCell;
 
 use jaaturbal_model::memory::{Guarded, Side};
-use jaaturbal_model::paper::{HOUSE, Tables};
+use jaaturbal_model::paper::{HOUSE, Tables, apart};
 use jaaturbal_model::random::Random;
 use jaaturbal_model::tables::{Wanted, drawn};
 
@@ -82,7 +82,7 @@ impl Subject for Turn<'_> {
 
     fn run(&mut self) {
         let answer = self.ledger.borrow_mut().make(self.call);
-        assert_eq!(answer >> 32, 0);
+        assert_eq!(apart(answer).0, 0);
     }
 }
 

@@ -30,7 +30,7 @@ int main(void)
     answer = book_open(BOOK_BENCH, image, sizeof image, book_index, sizeof book_index);
     if (refused("open", answer))
         return 1;
-    sale = BOOK_VALUE(answer);
+    sale = (uint32_t)BOOK_VALUE(answer);
     if (refused("grow", book_grow(BOOK_BENCH, image, sizeof image, book_index, sizeof book_index, sale, 10)))
         return 1;
     for (bid = 0; bid < BIDS; bid++) {

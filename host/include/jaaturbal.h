@@ -17,9 +17,9 @@
  * without const) must overlap with no other slice of that call. Slices that are only read may overlap. No call keeps a pointer,
  * allocates memory, or uses anything but its arguments, so calls on different images may run at the same time.
  *
- * Answers. Each call answers refusal * 2^32 + value: take it apart by BOOK_REFUSAL and BOOK_VALUE. The refusal is 0 when
- * the call was done. A refused call answers value 0 and has changed no byte. Where more than one refusal would apply, the order
- * of checks decides: it is told at each call.
+ * Answers. Each call answers refusal * 2^56 + value, the value below 2^56: take it apart by BOOK_REFUSAL and BOOK_VALUE. The
+ * refusal is 0 when the call was done. A refused call answers value 0 and has changed no byte. Where more than one refusal would
+ * apply, the order of checks decides: it is told at each call.
  */
 #ifndef JAATURBAL_H
 #define JAATURBAL_H
@@ -38,8 +38,9 @@ extern "C" {
 #define BOOK_BENCH_INDEX_BYTES ((size_t)82)
 #define BOOK_HOUSE_INDEX_BYTES ((size_t)131074)
 
-#define BOOK_REFUSAL(answer) ((uint32_t)((uint64_t)(answer) >> 32))
-#define BOOK_VALUE(answer) ((uint32_t)(answer))
+#define BOOK_VALUE_BITS 56
+#define BOOK_REFUSAL(answer) ((uint32_t)((uint64_t)(answer) >> BOOK_VALUE_BITS))
+#define BOOK_VALUE(answer) ((uint64_t)(answer) & (((uint64_t)1 << BOOK_VALUE_BITS) - 1))
 
 enum book_refusal {
     BOOK_DONE = 0,

@@ -13,22 +13,21 @@ use Rattle.paper.specs.Geometry.{Allowed, need, capacity, mostBookPages}
 use Rattle.paper.specs.Image.{front, taken, pagesOf, isOpen, needOf, blockOf}
 use Rattle.paper.specs.Index.{indexOf, blockIn}
 use Rattle.paper.specs.Calls.{granted, newBlocks, grownFront, grown, stored}
-use Rattle.paper.specs.Refusals.{usable}
-use Rattle.paper.proofs.Counting.{capacity-blocks, need-mono}
-use Rattle.rules.specs.Facts.{Rules, Formed, Reads, callable}
+use Rattle.paper.specs.Refusals.{usable, callable}
+use Rattle.paper.proofs.Arithmetic.{capacity-blocks, need-mono}
+use Rattle.rules.specs.Facts.{Rules, Formed, Reads, fronted}
 use Rattle.rules.proofs.Facts.{open-below}
 use Rattle.rules.proofs.Index.{length-index, block-read}
-use Rattle.rules.proofs.Checks.{usable-facts, open-usable}
 use Rattle.rules.proofs.Touched.{touched-recovered}
 use Rattle.keeping.proofs.Stored.{stored-ext}
 use Rattle.keeping.proofs.Grow.{GrownTo, grownFront-to}
 use Rattle.keeping.proofs.Growth.{grown-front}
-use Rattle.image.specs.Readable.{fronted}
-use Rattle.granting.specs.Grant.{Grantable}
-use Rattle.granting.proofs.Spare.{grantable}
-use Rattle.image.proofs.Fronts.{front-is}
+use Rattle.tables.specs.Grant.{Grantable}
+use Rattle.tables.proofs.Spare.{grantable}
 use Rattle.books.specs.Room.{Growing}
 use Rattle.books.proofs.Left.{readable}
+use Rattle.rules.proofs.Usable.{usable-facts, open-usable}
+use Rattle.rules.proofs.Fronts.{front-is}
 
 module _ (g : Geometry) (image index : List ℕ) (r n : ℕ) (W : Growing g image index r n) where
   abbrev t : List ℕ

@@ -9,9 +9,7 @@ ghost use Rattle.paper.specs.Image.{front, pagesOf, isOpen};
 ghost use Rattle.paper.specs.Calls.{«open», grow, release, grownFront, grown};
 ghost use Rattle.paper.specs.Index.{indexOf};
 ghost use Rattle.paper.specs.Outcomes.{gives, lent, outcome};
-ghost use Rattle.rules.specs.Facts.{Formed};
-ghost use Rattle.image.specs.Readable.{Readable, fronted};
-ghost use Rattle.index.specs.Witnessed.{Indexed};
+ghost use Rattle.rules.specs.Facts.{Formed, Readable, fronted, Indexed};
 ghost use Rattle.books.specs.Room.{hasRoom, Growing};
 use paper::Answer;
 use paper::Geometry;
@@ -47,15 +45,15 @@ fn index_anew(g: Geometry, image: &[u8], index: &mut [u8])
 pub fn open(g: Geometry, image: &mut [u8], index: &mut [u8]) -> Answer
     ensures { λ a. ⌜ gives a [] (lent (now (image .exit)) (now (index .exit))) ≡ outcome g «open» (lent (now (image .entry)) (now (index .entry))) ⌝ }
 {
-    let no = recovery::indexed_refusal(g, image, index);
+    let no = recovery::ordered(g, image, index);
     if no != 0 {
         return Answer::Refused(no);
     }
-    let r = granting::next_region(g, image);
-    if g.no_region() <= r.0 as usize {
+    let r = tables::next_region(g, image);
+    if g.no_region().0 <= r.0 {
         return Answer::Refused(desk::NO_REGION);
     }
-    granting::open_tables(g, image, r);
+    tables::open_tables(g, image, r);
     index_anew(g, image, index);
     Answer::Done(r.0 as u64)
 }
@@ -64,7 +62,7 @@ pub fn open(g: Geometry, image: &mut [u8], index: &mut [u8]) -> Answer
 pub fn release(g: Geometry, image: &mut [u8], index: &mut [u8], region: Region) -> Answer
     ensures { λ a. ⌜ gives a [] (lent (now (image .exit)) (now (index .exit))) ≡ outcome g (release (region .0)) (lent (now (image .entry)) (now (index .entry))) ⌝ }
 {
-    let no = recovery::indexed_refusal(g, image, index);
+    let no = recovery::ordered(g, image, index);
     if no != 0 {
         return Answer::Refused(no);
     }
@@ -74,7 +72,7 @@ pub fn release(g: Geometry, image: &mut [u8], index: &mut [u8], region: Region) 
     if !desk::usable(g, image, region) {
         return Answer::Refused(desk::REGION);
     }
-    granting::release_tables(g, image, region);
+    tables::release_tables(g, image, region);
     index_anew(g, image, index);
     Answer::Done(0)
 }
@@ -87,7 +85,7 @@ fn grow_tables(g: Geometry, image: &mut [u8], index: &[u8], region: Region, page
     let old = image::pages(g, image, region);
     let new = Pages(old.0 + pages.0);
     let more = g.need(new) - g.need(old);
-    granting::grant_blocks(g, image, index, region, more);
+    tables::grant_blocks(g, image, index, region, more);
     image::set_pages(g, image, region, new);
 }
 
@@ -115,7 +113,7 @@ fn extend(g: Geometry, image: &mut [u8], index: &mut [u8], region: Region, old: 
 pub fn grow(g: Geometry, image: &mut [u8], index: &mut [u8], region: Region, pages: Pages) -> Answer
     ensures { λ a. ⌜ gives a [] (lent (now (image .exit)) (now (index .exit))) ≡ outcome g (grow (region .0) (pages .0)) (lent (now (image .entry)) (now (index .entry))) ⌝ }
 {
-    let no = recovery::indexed_refusal(g, image, index);
+    let no = recovery::ordered(g, image, index);
     if no != 0 {
         return Answer::Refused(no);
     }

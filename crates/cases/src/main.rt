@@ -1,4 +1,5 @@
 // The bench table through the compiled calls: a line for each case, with four of the house after them.
+// The table is walked row by row, and a case holds where each of its rows does.
 use libc::STDOUT_FILENO;
 use paper::Answer;
 use paper::Geometry;
@@ -8,379 +9,376 @@ use paper::Region;
 
 const G: Geometry = Geometry::BENCH;
 
-fn answers(a: Answer, refusal: u8, value: u64) -> bool {
+// What a row does: a call, which answers the row's refusal and value, a recovery from a copy of the image cut to so many bytes,
+const LAY: u64 = 0;
+
+const OPEN: u64 = 1;
+
+const GROW: u64 = 2;
+
+const STORE: u64 = 3;
+
+const LOAD: u64 = 4;
+
+const RELEASE: u64 = 5;
+
+const RECOVER: u64 = 6;
+
+// or a look, which hands back a part of that length whose bytes are the value,
+const LOOK: u64 = 7;
+
+// or a change by hand: image and index all zero, the index all zero, or one byte of the image,
+const ZERO: u64 = 8;
+
+const WIPE: u64 = 9;
+
+const PUT: u64 = 10;
+
+// or a check that so many numbers from the offset on, of 1, 2 or 4 bytes in the image or of 2 in the index, are the value.
+const HAS1: u64 = 11;
+
+const HAS2: u64 = 12;
+
+const HAS4: u64 = 13;
+
+const INDEX: u64 = 14;
+
+// The columns of a row, in their order. The number is pages, an offset, or the bytes of a copy.
+const CASE: usize = 0;
+
+const DOES: usize = 1;
+
+const REGION: usize = 2;
+
+const NUMBER: usize = 3;
+
+const LENGTH: usize = 4;
+
+const REFUSAL: usize = 5;
+
+const VALUE: usize = 6;
+
+// The table in parts, one to a function: what is to be proved of a function grows faster than its rows do.
+// A block's entry, as one number, is its position and then its region.
+const CASES_1_TO_3: [[u64; 7]; 15] = [
+    [1, LAY, 0, 0, 0, 0, 0],
+    [1, HAS4, 0, 0, 1, 0, 0],
+    [1, HAS4, 0, 4, 1, 0, 2],
+    [1, HAS2, 0, 8, 1, 0, 0],
+    [1, HAS2, 0, 10, 1, 0, 16],
+    [1, HAS4, 0, 12, 1, 0, 0],
+    [1, HAS4, 0, 16, 16, 0, 0x00000017],
+    [1, LAY, 0, 0, 0, 12, 0],
+    [2, OPEN, 0, 0, 0, 0, 16],
+    [2, OPEN, 0, 0, 0, 0, 17],
+    [3, GROW, 16, 8, 0, 0, 0],
+    [3, GROW, 17, 8, 0, 0, 0],
+    [3, GROW, 16, 1, 0, 0, 8],
+    [3, HAS2, 0, 8, 1, 0, 3],
+    [3, HAS4, 0, 24, 1, 0, 0x00010010],
+];
+
+const CASES_4_TO_6: [[u64; 7]; 19] = [
+    [4, INDEX, 0, 0, 17, 0, 0],
+    [4, INDEX, 0, 34, 1, 0, 2],
+    [4, INDEX, 0, 36, 7, 0, 3],
+    [4, INDEX, 0, 50, 1, 0, 0],
+    [4, INDEX, 0, 52, 1, 0, 2],
+    [4, INDEX, 0, 54, 1, 0, 1],
+    [4, INDEX, 0, 56, 13, 0, 65535],
+    [5, STORE, 16, 510, 4, 0, 0],
+    [5, HAS1, 0, 1021, 1, 0, 0],
+    [5, HAS2, 0, 1022, 1, 0, 0x0201],
+    [5, HAS1, 0, 1024, 1, 0, 0],
+    [5, HAS1, 0, 1535, 1, 0, 0],
+    [5, HAS2, 0, 1536, 1, 0, 0x0403],
+    [5, HAS1, 0, 1538, 1, 0, 0],
+    [5, LOOK, 16, 510, 2, 0, 0x0201],
+    [6, LOAD, 16, 575, 1, 0, 0],
+    [6, LOAD, 16, 576, 0, 0, 0],
+    [6, LOAD, 16, 576, 1, 9, 0],
+    [6, LOAD, 16, 577, 0, 9, 0],
+];
+
+const CASES_7_TO_10: [[u64; 7]; 17] = [
+    [7, WIPE, 0, 0, 0, 0, 0],
+    [7, RECOVER, 0, 2047, 0, 5, 0],
+    [7, INDEX, 0, 0, 41, 0, 0],
+    [7, RECOVER, 0, 2048, 0, 0, 0],
+    [8, RELEASE, 16, 0, 0, 0, 0],
+    [8, HAS4, 0, 16, 1, 0, 0x00000001],
+    [8, HAS4, 0, 24, 1, 0, 0x00010001],
+    [8, HAS4, 0, 88, 1, 0, 16],
+    [8, HAS4, 0, 92, 1, 0, 0],
+    [9, GROW, 17, 1, 0, 0, 8],
+    [9, HAS4, 0, 24, 1, 0, 0x00010011],
+    [9, HAS2, 0, 8, 1, 0, 3],
+    [9, HAS1, 0, 1536, 64, 0, 0],
+    [10, GROW, 17, 120, 0, 10, 0],
+    [10, GROW, 17, 18446744073709551615, 0, 10, 0],
+    [10, GROW, 17, 0, 0, 0, 9],
+    [10, GROW, 17, 119, 0, 0, 9],
+];
+
+const CASES_11_TO_12: [[u64; 7]; 21] = [
+    [11, ZERO, 0, 0, 0, 0, 0],
+    [11, LAY, 0, 0, 0, 0, 0],
+    [11, OPEN, 0, 0, 0, 0, 16],
+    [11, OPEN, 0, 0, 0, 0, 17],
+    [11, OPEN, 0, 0, 0, 0, 18],
+    [11, OPEN, 0, 0, 0, 0, 19],
+    [11, OPEN, 0, 0, 0, 0, 20],
+    [11, OPEN, 0, 0, 0, 0, 21],
+    [11, OPEN, 0, 0, 0, 0, 22],
+    [11, OPEN, 0, 0, 0, 11, 0],
+    [11, RELEASE, 18, 0, 0, 0, 0],
+    [11, OPEN, 0, 0, 0, 0, 18],
+    // Case 4's image with block 0's entry changed, so that two blocks name one position.
+    [12, ZERO, 0, 0, 0, 0, 0],
+    [12, LAY, 0, 0, 0, 0, 0],
+    [12, OPEN, 0, 0, 0, 0, 16],
+    [12, OPEN, 0, 0, 0, 0, 17],
+    [12, GROW, 16, 8, 0, 0, 0],
+    [12, GROW, 17, 8, 0, 0, 0],
+    [12, GROW, 16, 1, 0, 0, 8],
+    [12, PUT, 0, 16, 0, 0, 0x11],
+    [12, RECOVER, 0, 8704, 0, 6, 0],
+];
+
+const CASE_13: [[u64; 7]; 12] = [
+    // A page grown inside a held block shows nothing of the book that had the block before.
+    [13, ZERO, 0, 0, 0, 0, 0],
+    [13, LAY, 0, 0, 0, 0, 0],
+    [13, GROW, 0, 8, 0, 0, 0],
+    [13, OPEN, 0, 0, 0, 0, 16],
+    [13, GROW, 16, 8, 0, 0, 0],
+    [13, STORE, 16, 60, 16, 0, 0],
+    [13, RELEASE, 16, 0, 0, 0, 0],
+    [13, GROW, 0, 1, 0, 0, 8],
+    [13, HAS4, 0, 1084, 1, 0, 0],
+    [13, HAS4, 0, 1088, 1, 0, 0x08070605],
+    [13, GROW, 0, 1, 0, 0, 9],
+    [13, HAS4, 0, 1084, 2, 0, 0],
+];
+
+const CASE_14: [[u64; 7]; 3] = [
+    // An image of three data blocks, though the geometry has sixteen, has room for three.
+    [14, LAY, 0, 0, 0, 0, 0],
+    [14, GROW, 0, 25, 0, 10, 0],
+    [14, GROW, 0, 24, 0, 0, 0],
+];
+
+const CASES_15_TO_16: [[u64; 7]; 23] = [
+    // A second release goes after the first: blocks 0 and 1, then block 2.
+    [15, ZERO, 0, 0, 0, 0, 0],
+    [15, LAY, 0, 0, 0, 0, 0],
+    [15, OPEN, 0, 0, 0, 0, 16],
+    [15, OPEN, 0, 0, 0, 0, 17],
+    [15, GROW, 16, 16, 0, 0, 0],
+    [15, GROW, 17, 1, 0, 0, 0],
+    [15, RELEASE, 16, 0, 0, 0, 0],
+    [15, RELEASE, 17, 0, 0, 0, 0],
+    [15, HAS4, 0, 16, 1, 0, 0x00000001],
+    [15, HAS4, 0, 20, 1, 0, 0x00010001],
+    [15, HAS4, 0, 24, 1, 0, 0x00020001],
+    // Blocks taken from region 1 come highest position first, so that a book's blocks need not be in the image's order: 1, 2, 0.
+    [16, ZERO, 0, 0, 0, 0, 0],
+    [16, LAY, 0, 0, 0, 0, 0],
+    [16, OPEN, 0, 0, 0, 0, 16],
+    [16, OPEN, 0, 0, 0, 0, 17],
+    [16, GROW, 16, 8, 0, 0, 0],
+    [16, GROW, 17, 8, 0, 0, 0],
+    [16, GROW, 16, 1, 0, 0, 8],
+    [16, RELEASE, 16, 0, 0, 0, 0],
+    [16, GROW, 17, 16, 0, 0, 8],
+    [16, INDEX, 0, 50, 1, 0, 1],
+    [16, INDEX, 0, 52, 1, 0, 2],
+    [16, INDEX, 0, 54, 1, 0, 0],
+];
+
+// For a row that is no call, or loads or stores more bytes than there are for it.
+const ODD: u8 = 99;
+
+fn region(row: [u64; 7]) -> Region {
+    Region((row[REGION] % 65536) as u32)
+}
+
+fn wide(b: u8) -> u64 {
+    b as u64
+}
+
+// The number that one, two or four bytes make; 0 for any other part.
+fn number(part: &[u8]) -> u64 {
+    match part.len() {
+        1 => wide(part[0]),
+        2 => numbers::read_u16(part, 0) as u64,
+        4 => numbers::read_u32(part, 0) as u64,
+        _ => 0,
+    }
+}
+
+// ---- the call of a row
+
+fn table_call(image: &mut [u8], index: &mut [u8], row: [u64; 7]) -> Answer {
+    match row[DOES] {
+        LAY => laying::lay(G, image, index),
+        OPEN => books::open(G, image, index),
+        GROW => books::grow(G, image, index, region(row), Pages(row[NUMBER])),
+        RELEASE => books::release(G, image, index, region(row)),
+        _ => Answer::Refused(ODD),
+    }
+}
+
+// Recovery from a copy of the image.
+fn recover(image: &[u8], index: &mut [u8], row: [u64; 7]) -> Answer {
+    let n = row[NUMBER] as usize;
+    if image.len() < n {
+        return Answer::Refused(ODD);
+    }
+    recovery::recover(G, &image[0..n], index)
+}
+
+// A store writes the bytes 1, 2, 3 and so on.
+fn store(image: &mut [u8], index: &[u8], row: [u64; 7]) -> Answer {
+    let bytes: [u8; 16] = [1, 2, 3, 4, 5, 6, 7, 8, 9, 10, 11, 12, 13, 14, 15, 16];
+    let n = row[LENGTH] as usize;
+    if bytes.len() < n {
+        return Answer::Refused(ODD);
+    }
+    contents::store(
+        G,
+        image,
+        index,
+        region(row),
+        Offset(row[NUMBER]),
+        &bytes[0..n],
+    )
+}
+
+// A load answers the number that its bytes make.
+fn loaded(image: &[u8], index: &[u8], row: [u64; 7], buffer: &mut [u8]) -> Answer {
+    let a = contents::load(G, image, index, region(row), Offset(row[NUMBER]), buffer);
+    let Answer::Done(_) = a else {
+        return a;
+    };
+    Answer::Done(number(buffer))
+}
+
+fn load(image: &[u8], index: &[u8], row: [u64; 7]) -> Answer {
+    let mut buffer = [7u8; 4];
+    let n = row[LENGTH] as usize;
+    if buffer.len() < n {
+        return Answer::Refused(ODD);
+    }
+    loaded(image, index, row, &mut buffer[0..n])
+}
+
+fn call(image: &mut [u8], index: &mut [u8], row: [u64; 7]) -> Answer {
+    match row[DOES] {
+        STORE => store(image, index, row),
+        LOAD => load(image, index, row),
+        RECOVER => recover(image, index, row),
+        _ => table_call(image, index, row),
+    }
+}
+
+// ---- what a row wants
+
+fn answers(a: Answer, row: [u64; 7]) -> bool {
     match a {
         Answer::Done(v) => {
-            if refusal != 0 {
+            if row[REFUSAL] != 0 {
                 return false;
             }
-            v == value
+            v == row[VALUE]
         }
         Answer::Refused(k) => {
-            if value != 0 {
+            if row[VALUE] != 0 {
                 return false;
             }
-            k == refusal
+            k as u64 == row[REFUSAL]
         }
     }
 }
 
-// The bytes at that offset are those wanted.
-fn has(bytes: &[u8], at: usize, wanted: &[u8]) -> bool {
-    if bytes.len() < wanted.len() {
+// A look hands back a part of that length, with those bytes.
+fn shows(image: &[u8], index: &[u8], row: [u64; 7]) -> bool {
+    let part = contents::look(G, image, index, region(row), Offset(row[NUMBER]));
+    if part.len() as u64 != row[LENGTH] {
         return false;
     }
-    if bytes.len() - wanted.len() < at {
-        return false;
-    }
-    for i in 0..wanted.len() {
-        if bytes[at + i] != wanted[i] {
-            return false;
-        }
-    }
-    true
-}
-
-fn all(bytes: &[u8], wanted: u8) -> bool {
-    for i in 0..bytes.len() {
-        if bytes[i] != wanted {
-            return false;
-        }
-    }
-    true
-}
-
-fn opens(image: &mut [u8], index: &mut [u8], region: u64) -> bool {
-    answers(books::open(G, image, index), 0, region)
-}
-
-fn grows(
-    image: &mut [u8],
-    index: &mut [u8],
-    region: u32,
-    pages: u64,
-    refusal: u8,
-    value: u64,
-) -> bool {
-    answers(
-        books::grow(G, image, index, Region(region), Pages(pages)),
-        refusal,
-        value,
-    )
-}
-
-fn loads(image: &[u8], index: &[u8], offset: u64, n: usize, refusal: u8) -> bool {
-    let mut buffer = [7u8; 4];
-    if buffer.len() < n {
-        return false;
-    }
-    answers(
-        contents::load(
-            G,
-            image,
-            index,
-            Region(16),
-            Offset(offset),
-            &mut buffer[0..n],
-        ),
-        refusal,
-        0,
-    )
-}
-
-fn case1(image: &mut [u8], index: &mut [u8]) -> bool {
-    if !answers(laying::lay(G, image, index), 0, 0) {
-        return false;
-    }
-    if !has(image, 0, &[0, 0, 0, 0, 2, 0, 0, 0, 0, 0, 16, 0, 0, 0, 0, 0]) {
-        return false;
-    }
-    if !has(image, 16, &[23, 0, 0, 0, 23, 0, 0, 0]) {
-        return false;
-    }
-    answers(laying::lay(G, image, index), 12, 0)
-}
-
-fn case2(image: &mut [u8], index: &mut [u8]) -> bool {
-    if !opens(image, index, 16) {
-        return false;
-    }
-    opens(image, index, 17)
-}
-
-fn case3(image: &mut [u8], index: &mut [u8]) -> bool {
-    if !grows(image, index, 16, 8, 0, 0) {
-        return false;
-    }
-    if !grows(image, index, 17, 8, 0, 0) {
-        return false;
-    }
-    if !grows(image, index, 16, 1, 0, 8) {
-        return false;
-    }
-    if !has(image, 8, &[3, 0]) {
-        return false;
-    }
-    has(image, 24, &[16, 0, 1, 0])
-}
-
-fn case4(index: &[u8]) -> bool {
-    if index.len() != 82 {
-        return false;
-    }
-    if !all(&index[0..34], 0) {
-        return false;
-    }
-    if !has(index, 34, &[2, 0, 3, 0, 3, 0, 3, 0, 3, 0, 3, 0, 3, 0, 3, 0]) {
-        return false;
-    }
-    if !has(index, 50, &[0, 0, 2, 0, 1, 0]) {
-        return false;
-    }
-    all(&index[56..82], 255)
-}
-
-fn case5(image: &mut [u8], index: &[u8]) -> bool {
-    if !answers(
-        contents::store(G, image, index, Region(16), Offset(510), &[1, 2, 3, 4]),
-        0,
-        0,
-    ) {
-        return false;
-    }
-    if !has(image, 1021, &[0, 1, 2, 0]) {
-        return false;
-    }
-    if !has(image, 1535, &[0, 3, 4, 0]) {
-        return false;
-    }
-    let part = contents::look(G, image, index, Region(16), Offset(510));
-    if part.len() != 2 {
-        return false;
-    }
-    has(part, 0, &[1, 2])
-}
-
-fn case6(image: &[u8], index: &[u8]) -> bool {
-    if !loads(image, index, 575, 1, 0) {
-        return false;
-    }
-    if !loads(image, index, 576, 0, 0) {
-        return false;
-    }
-    if !loads(image, index, 576, 1, 9) {
-        return false;
-    }
-    loads(image, index, 577, 0, 9)
-}
-
-fn case7(image: &[u8]) -> bool {
-    let mut index = [0u8; 82];
-    if image.len() < 2048 {
-        return false;
-    }
-    if !answers(recovery::recover(G, &image[0..2047], &mut index), 5, 0) {
-        return false;
-    }
-    if !all(&index, 0) {
-        return false;
-    }
-    answers(recovery::recover(G, &image[0..2048], &mut index), 0, 0)
-}
-
-fn case8(image: &mut [u8], index: &mut [u8]) -> bool {
-    if !answers(books::release(G, image, index, Region(16)), 0, 0) {
-        return false;
-    }
-    if !has(image, 16, &[1, 0, 0, 0]) {
-        return false;
-    }
-    if !has(image, 24, &[1, 0, 1, 0]) {
-        return false;
-    }
-    has(image, 88, &[16, 0, 0, 0, 0, 0, 0, 0])
-}
-
-fn case9(image: &mut [u8], index: &mut [u8]) -> bool {
-    if !grows(image, index, 17, 1, 0, 8) {
-        return false;
-    }
-    if !has(image, 24, &[17, 0, 1, 0]) {
-        return false;
-    }
-    if !has(image, 8, &[3, 0]) {
-        return false;
-    }
-    if image.len() < 1600 {
-        return false;
-    }
-    all(&image[1536..1600], 0)
-}
-
-fn case10(image: &mut [u8], index: &mut [u8]) -> bool {
-    if !grows(image, index, 17, 120, 10, 0) {
-        return false;
-    }
-    if !grows(image, index, 17, 18446744073709551615, 10, 0) {
-        return false;
-    }
-    if !grows(image, index, 17, 0, 0, 9) {
-        return false;
-    }
-    grows(image, index, 17, 119, 0, 9)
-}
-
-fn opens_seven(image: &mut [u8], index: &mut [u8]) -> bool {
-    for region in 16..23 {
-        if !opens(image, index, region) {
-            return false;
-        }
-    }
-    true
-}
-
-fn reopens(image: &mut [u8], index: &mut [u8]) -> bool {
-    if !answers(books::release(G, image, index, Region(18)), 0, 0) {
-        return false;
-    }
-    opens(image, index, 18)
-}
-
-fn case11(image: &mut [u8], index: &mut [u8]) -> bool {
-    if !answers(laying::lay(G, image, index), 0, 0) {
-        return false;
-    }
-    if !opens_seven(image, index) {
-        return false;
-    }
-    if !answers(books::open(G, image, index), 11, 0) {
-        return false;
-    }
-    reopens(image, index)
-}
-
-// Cases 1 to 3 on a fresh image: what case 4 finds.
-fn built(image: &mut [u8], index: &mut [u8]) -> bool {
-    if !case1(image, index) {
-        return false;
-    }
-    if !case2(image, index) {
-        return false;
-    }
-    case3(image, index)
-}
-
-fn overwrite(image: &mut [u8], at: usize, b: u8) {
-    if at < image.len() {
-        image[at] = b;
-    }
-}
-
-// Case 4's image with block 0's entry changed, so that two blocks name one position.
-fn case12(image: &mut [u8], index: &mut [u8]) -> bool {
-    if !built(image, index) {
-        return false;
-    }
-    overwrite(image, 16, 17);
-    answers(recovery::recover(G, image, index), 6, 0)
-}
-
-// Book 0 has block 0, and book 16 had block 1, with bids across its first two pages.
-fn reclaimed(image: &mut [u8], index: &mut [u8]) -> bool {
-    if !opens(image, index, 16) {
-        return false;
-    }
-    if !grows(image, index, 16, 8, 0, 0) {
-        return false;
-    }
-    if !answers(
-        contents::store(G, image, index, Region(16), Offset(60), &[9; 16]),
-        0,
-        0,
-    ) {
-        return false;
-    }
-    answers(books::release(G, image, index, Region(16)), 0, 0)
-}
-
-// A page grown inside a held block shows nothing of the book that had the block before.
-fn case13(image: &mut [u8], index: &mut [u8]) -> bool {
-    if !answers(laying::lay(G, image, index), 0, 0) {
-        return false;
-    }
-    if !grows(image, index, 0, 8, 0, 0) {
-        return false;
-    }
-    if !reclaimed(image, index) {
-        return false;
-    }
-    zeroed(image, index)
+    number(part) == row[VALUE]
 }
 
 fn zeroed(image: &mut [u8], index: &mut [u8]) -> bool {
-    if !grows(image, index, 0, 1, 0, 8) {
-        return false;
-    }
-    if !has(image, 1084, &[0, 0, 0, 0, 9, 9, 9, 9]) {
-        return false;
-    }
-    if !grows(image, index, 0, 1, 0, 9) {
-        return false;
-    }
-    has(image, 1084, &[0, 0, 0, 0, 0, 0, 0, 0])
+    numbers::zero(image);
+    numbers::zero(index);
+    true
 }
 
-// An image of three data blocks, though the geometry has sixteen, has room for three.
-fn case14(image: &mut [u8], index: &mut [u8]) -> bool {
-    if !answers(laying::lay(G, image, index), 0, 0) {
-        return false;
-    }
-    if !grows(image, index, 0, 25, 10, 0) {
-        return false;
-    }
-    grows(image, index, 0, 24, 0, 0)
+fn wiped(index: &mut [u8]) -> bool {
+    numbers::zero(index);
+    true
 }
 
-fn three_blocks(image: &mut [u8], index: &mut [u8]) -> bool {
-    if !case1(image, index) {
+fn put(image: &mut [u8], row: [u64; 7]) -> bool {
+    let at = row[NUMBER] as usize;
+    if image.len() <= at {
         return false;
     }
-    if !case2(image, index) {
-        return false;
-    }
-    if !grows(image, index, 16, 16, 0, 0) {
-        return false;
-    }
-    grows(image, index, 17, 1, 0, 0)
+    image[at] = (row[VALUE] % 256) as u8;
+    true
 }
 
-// A second release goes after the first: blocks 0 and 1, then block 2.
-fn case15(image: &mut [u8], index: &mut [u8]) -> bool {
-    if !three_blocks(image, index) {
-        return false;
+fn width(row: [u64; 7]) -> usize {
+    match row[DOES] {
+        HAS1 => 1,
+        HAS4 => 4,
+        _ => 2,
     }
-    if !answers(books::release(G, image, index, Region(16)), 0, 0) {
-        return false;
-    }
-    if !answers(books::release(G, image, index, Region(17)), 0, 0) {
-        return false;
-    }
-    has(image, 16, &[1, 0, 0, 0, 1, 0, 1, 0, 1, 0, 2, 0])
 }
 
-// Blocks taken from region 1 come highest position first, so that a book's blocks need not be in the image's order: 1, 2, 0.
-fn case16(image: &mut [u8], index: &mut [u8]) -> bool {
-    if !built(image, index) {
-        return false;
+// So many numbers of that width from the offset on are those wanted.
+fn has(bytes: &[u8], width: usize, from: Offset, times: u64, wanted: u64) -> bool {
+    let mut at = from.0 as usize;
+    for _ in 0..times {
+        if bytes.len() < at {
+            return false;
+        }
+        if bytes.len() - at < width {
+            return false;
+        }
+        if number(&bytes[at..at + width]) != wanted {
+            return false;
+        }
+        at += width;
     }
-    if !answers(books::release(G, image, index, Region(16)), 0, 0) {
-        return false;
-    }
-    if !grows(image, index, 17, 16, 0, 8) {
-        return false;
-    }
-    has(index, 50, &[1, 0, 2, 0, 0, 0])
+    true
 }
+
+fn row_has(bytes: &[u8], row: [u64; 7]) -> bool {
+    has(
+        bytes,
+        width(row),
+        Offset(row[NUMBER]),
+        row[LENGTH],
+        row[VALUE],
+    )
+}
+
+fn holds(image: &mut [u8], index: &mut [u8], row: [u64; 7]) -> bool {
+    match row[DOES] {
+        LOOK => shows(image, index, row),
+        ZERO => zeroed(image, index),
+        WIPE => wiped(index),
+        PUT => put(image, row),
+        HAS1 | HAS2 | HAS4 => row_has(image, row),
+        INDEX => row_has(index, row),
+        _ => answers(call(image, index, row), row),
+    }
+}
+
+// ---- the walk
 
 fn report(number: u64, right: bool) {
     io::write_all(STDOUT_FILENO, b"case ");
@@ -392,41 +390,62 @@ fn report(number: u64, right: bool) {
     }
 }
 
-// The starred cases, one after the other on one image.
-fn starred() {
-    let mut image = [0u8; 8704];
-    let mut index = [0u8; 82];
-    report(1, case1(&mut image, &mut index));
-    report(2, case2(&mut image, &mut index));
-    report(3, case3(&mut image, &mut index));
-    report(4, case4(&index));
-    report(5, case5(&mut image, &index));
-    report(6, case6(&image, &index));
-    report(7, case7(&image));
-    report(8, case8(&mut image, &mut index));
-    report(9, case9(&mut image, &mut index));
-    report(10, case10(&mut image, &mut index));
+// A case's line is printed when its last row is done.
+fn walk(image: &mut [u8], index: &mut [u8], first: u64, rows: &[[u64; 7]]) {
+    let mut case = first;
+    let mut right = true;
+    for i in 0..rows.len() {
+        let row = rows[i];
+        if row[CASE] != case {
+            report(case, right);
+            case = row[CASE];
+            right = true;
+        }
+        if !holds(image, index, row) {
+            right = false;
+        }
+    }
+    report(case, right);
 }
 
-fn fresh(number: u64) {
-    let mut image = [0u8; 8704];
+fn cases_1_to_3(image: &mut [u8], index: &mut [u8]) {
+    walk(image, index, 1, &CASES_1_TO_3);
+}
+
+fn cases_4_to_6(image: &mut [u8], index: &mut [u8]) {
+    walk(image, index, 4, &CASES_4_TO_6);
+}
+
+fn cases_7_to_10(image: &mut [u8], index: &mut [u8]) {
+    walk(image, index, 7, &CASES_7_TO_10);
+}
+
+fn cases_11_to_12(image: &mut [u8], index: &mut [u8]) {
+    walk(image, index, 11, &CASES_11_TO_12);
+}
+
+fn case_13(image: &mut [u8], index: &mut [u8]) {
+    walk(image, index, 13, &CASE_13);
+}
+
+fn case_14() {
+    let mut image = [0u8; 2048];
     let mut index = [0u8; 82];
-    match number {
-        11 => report(11, case11(&mut image, &mut index)),
-        12 => report(12, case12(&mut image, &mut index)),
-        13 => report(13, case13(&mut image, &mut index)),
-        14 => report(14, case14(&mut image[0..2048], &mut index)),
-        15 => report(15, case15(&mut image, &mut index)),
-        _ => report(16, case16(&mut image, &mut index)),
-    }
+    walk(&mut image, &mut index, 14, &CASE_14);
+}
+
+fn cases_15_to_16(image: &mut [u8], index: &mut [u8]) {
+    walk(image, index, 15, &CASES_15_TO_16);
 }
 
 fn main() {
-    starred();
-    fresh(11);
-    fresh(12);
-    fresh(13);
-    fresh(14);
-    fresh(15);
-    fresh(16);
+    let mut image = [0u8; 8704];
+    let mut index = [0u8; 82];
+    cases_1_to_3(&mut image, &mut index);
+    cases_4_to_6(&mut image, &mut index);
+    cases_7_to_10(&mut image, &mut index);
+    cases_11_to_12(&mut image, &mut index);
+    case_13(&mut image, &mut index);
+    case_14();
+    cases_15_to_16(&mut image, &mut index);
 }

@@ -1,4 +1,1 @@
-pub mod Refusal
-pub mod Calls
-pub mod Written
-pub mod Theorems
+pub mod Looks

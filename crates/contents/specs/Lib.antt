@@ -1,2 +1,1 @@
--- The refusal that load, store and look share.
-pub mod Refusal
+-- The contracts cite the definitions of paper and rules alone.

@@ -7,8 +7,8 @@ ghost use Rattle.paper.specs.Geometry.{mostBookPages};
 ghost use Rattle.paper.specs.Image.{front, pagesOf};
 ghost use Rattle.paper.specs.Calls.{load, store, look};
 ghost use Rattle.paper.specs.Outcomes.{lent, gives, outcome};
-ghost use Rattle.image.specs.Readable.{Readable};
-ghost use Rattle.contents.specs.Refusal.{readRefusal};
+ghost use Rattle.rules.specs.Lines.{readNo};
+ghost use Rattle.rules.specs.Facts.{Readable};
 use paper::Answer;
 use paper::Geometry;
 use paper::Offset;
@@ -44,9 +44,9 @@ fn read_refusal(
     offset: Offset,
     n: usize,
 ) -> u8
-    ensures { λ k. ⌜ k ≡ readRefusal g (now (image .entry)) (now (index .entry)) (region .0) (offset .0) n ⌝ }
+    ensures { λ k. ⌜ k ≡ readNo g (now (image .entry)) (now (index .entry)) (region .0) (offset .0) n ⌝ }
 {
-    let no = desk::early_indexed(g, image, index);
+    let no = desk::entered(g, image, index);
     if no != 0 {
         return no;
     }

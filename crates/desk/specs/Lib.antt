@@ -1,2 +1,1 @@
--- The refusals that calls share.
-pub mod Shared
+-- The contracts cite the definitions of paper and rules alone.

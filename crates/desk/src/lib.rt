@@ -1,12 +1,15 @@
 // The refusals that calls share, each in its order, and the call that asks nothing else: size.
 ghost use mathlib.Core.Path.{_≡_};
 ghost use mathlib.Core.List.{[]};
-ghost use Rattle.paper.specs.Image.{front};
+ghost use lib.Dec.{ltb};
+ghost use lib.ListN.{length};
+ghost use Rattle.paper.specs.Geometry.{capacity};
+ghost use Rattle.paper.specs.Image.{front, taken};
 ghost use Rattle.paper.specs.Calls.{size};
 ghost use Rattle.paper.specs.Refusals.{usable};
 ghost use Rattle.paper.specs.Outcomes.{lent, gives, outcome};
-ghost use Rattle.image.specs.Readable.{Readable};
-ghost use Rattle.desk.specs.Shared.{Early, EarlyIndexed, Book};
+ghost use Rattle.rules.specs.Facts.{Readable};
+ghost use Rattle.rules.specs.Lines.{headNo, wholeNo, bookNo, indexedHeadNo, enteredNo};
 use paper::Answer;
 use paper::Geometry;
 use paper::Region;
@@ -39,9 +42,9 @@ pub const NOT_BLANK: u8 = 12;
 
 // ---- shared refusals: 0 where none applies
 
-// 1, 3, 4, 5.
-pub fn early(g: Geometry, image: &[u8]) -> u8
-    ensures { λ k. ⌜ Early g (now (image .entry)) k ⌝ }
+// 1, 3, 4.
+pub fn head(g: Geometry, image: &[u8]) -> u8
+    ensures { λ k. ⌜ k ≡ headNo g (now (image .entry)) ⌝ }
 {
     if !g.allowed() {
         return GEOMETRY;
@@ -52,15 +55,12 @@ pub fn early(g: Geometry, image: &[u8]) -> u8
     if !image::header_right(g, image) {
         return HEADER;
     }
-    if g.capacity(image.len()) < image::taken(g, image) as usize {
-        return TAIL_MISSING;
-    }
     0
 }
 
-// 1, 2, 3, 4, 5.
-pub fn early_indexed(g: Geometry, image: &[u8], index: &[u8]) -> u8
-    ensures { λ k. ⌜ EarlyIndexed g (now (image .entry)) (now (index .entry)) k ⌝ }
+// 1, 2, 3, 4.
+pub fn indexed_head(g: Geometry, image: &[u8], index: &[u8]) -> u8
+    ensures { λ k. ⌜ k ≡ indexedHeadNo g (now (image .entry)) (now (index .entry)) ⌝ }
 {
     if !g.allowed() {
         return GEOMETRY;
@@ -68,18 +68,53 @@ pub fn early_indexed(g: Geometry, image: &[u8], index: &[u8]) -> u8
     if index.len() != g.index_bytes() {
         return INDEX_LENGTH;
     }
-    early(g, image)
+    head(g, image)
+}
+
+// The image has room for fewer blocks than were taken.
+pub fn tail_missing(g: Geometry, image: &[u8]) -> bool
+    requires { ⌜ Readable g (now image) ⌝ }
+    ensures { λ t. ⌜ t ≡ ltb (capacity g (length (now (image .entry)))) (taken g (front g (now (image .entry)))) ⌝ }
+{
+    g.capacity(image.len()) < image::taken(g, image) as usize
+}
+
+// 1, 3, 4, 5.
+fn whole(g: Geometry, image: &[u8]) -> u8
+    ensures { λ k. ⌜ k ≡ wholeNo g (now (image .entry)) ⌝ }
+{
+    let no = head(g, image);
+    if no != 0 {
+        return no;
+    }
+    if tail_missing(g, image) {
+        return TAIL_MISSING;
+    }
+    0
+}
+
+// 1, 2, 3, 4, 5.
+pub fn entered(g: Geometry, image: &[u8], index: &[u8]) -> u8
+    ensures { λ k. ⌜ k ≡ enteredNo g (now (image .entry)) (now (index .entry)) ⌝ }
+{
+    let no = indexed_head(g, image, index);
+    if no != 0 {
+        return no;
+    }
+    if tail_missing(g, image) {
+        return TAIL_MISSING;
+    }
+    0
 }
 
 pub fn usable(g: Geometry, image: &[u8], region: Region) -> bool
     requires { ⌜ Readable g (now image) ⌝ }
     ensures { λ t. ⌜ t ≡ usable g (front g (now (image .entry))) (region .0) ⌝ }
 {
-    let r = region.0 as usize;
-    if 0 < r && r < paper::FIXED_REGIONS {
+    if 0 < region.0 && region.0 < paper::FIXED_REGIONS {
         return false;
     }
-    if g.no_region() <= r {
+    if g.no_region().0 <= region.0 {
         return false;
     }
     image::is_open(g, image, region)
@@ -88,12 +123,12 @@ pub fn usable(g: Geometry, image: &[u8], region: Region) -> bool
 // 8, and 6 for this book alone.
 pub fn book_refusal(g: Geometry, image: &[u8], region: Region) -> u8
     requires { ⌜ Readable g (now image) ⌝ }
-    ensures { λ k. ⌜ Book g (now (image .entry)) (region .0) k ⌝ }
+    ensures { λ k. ⌜ k ≡ bookNo g (now (image .entry)) (region .0) ⌝ }
 {
     if !usable(g, image, region) {
         return REGION;
     }
-    if g.most_book_pages() < image::pages(g, image, region).0 {
+    if g.most_book_pages().0 < image::pages(g, image, region).0 {
         return TABLES;
     }
     0
@@ -104,7 +139,7 @@ pub fn book_refusal(g: Geometry, image: &[u8], region: Region) -> u8
 pub fn size(g: Geometry, image: &[u8], region: Region) -> Answer
     ensures { λ a. ⌜ gives a [] (lent (now (image .entry)) []) ≡ outcome g (size (region .0)) (lent (now (image .entry)) []) ⌝ }
 {
-    let no = early(g, image);
+    let no = whole(g, image);
     if no != 0 {
         return Answer::Refused(no);
     }

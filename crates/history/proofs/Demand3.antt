@@ -12,26 +12,24 @@ use Rattle.paper.specs.Geometry.{fixedRegions, reclaimed, Allowed, blockBytes, 
 use Rattle.paper.specs.Image.{front, rest}
 use Rattle.paper.specs.Calls.{Call, lay, recover, laid}
 use Rattle.paper.specs.Refusals.{refusal}
-use Rattle.paper.specs.Outcomes.{numberOf, State, Outcome, accepted, outcome}
+use Rattle.paper.specs.Outcomes.{numberOf, State, Outcome, outcome}
 use Rattle.rules.proofs.Cells.{front-joined, length-joined}
 use Rattle.rules.proofs.Laid.{length-laid, laid-formed, laid-index, laid-fixed, laid-open, laid-not-open}
-use Rattle.rules.proofs.First.{entered-formed}
-use Rattle.rules.proofs.Checks.{lay-accepted, recover-accepted}
-use Rattle.rules.proofs.Outcomes.{outcome-done, outcome-number}
+use Rattle.rules.proofs.Outcomes.{outcome-number, outcome-paper}
 use Rattle.keeping.proofs.Books.{book-empty}
 use Rattle.history.specs.History.{Books, Exchange, Moment, fresh, noted, after, Demand3, Run, told, Demand3Seen, found, FromRecovered}
 use Rattle.history.proofs.Sound.{Sound, sound-next}
 use Rattle.history.proofs.Seen.{sound-agrees}
+use Rattle.rules.proofs.Lines.{entered-formed, lay-accepted, recover-accepted, lay-done, recover-done}
 
 module _ (g : Geometry) where
   -- what is done was not refused
   not-refused : (c : Call) (s : State) (o : Outcome) → o ≡ outcome g c s → o .answer ≡ Done 0 → refusal g (s .image) (s .index) c ≡ 0
-  not-refused c s o e d = sym (outcome-number g c s) ∙ ap (λ o. numberOf (o .answer)) (sym e) ∙ ap numberOf d
+  not-refused c s o e d = sym (outcome-number g c s) ∙ outcome-paper g c s .0 ∙ ap (λ o. numberOf (o .answer)) (sym e) ∙ ap numberOf d
 
   -- ---- the first moment, after laying
   sound-laid : (s : State) → refusal g (s .image) (s .index) lay ≡ 0 → Sound g (length (s .image)) (outcome g lay s .state) (fresh g)
-  unfolding accepted
-  sound-laid s e = rw (outcome-done g lay s e) (record {
+  sound-laid s e = rw (lay-done g s e) (record {
     ordered = record {
       geometry = A;
       long = omega (arith, len, long);
@@ -66,10 +64,9 @@ module _ (g : Geometry) where
 
   -- or after recovery
   sound-recovered : (s : State) → refusal g (s .image) (s .index) recover ≡ 0 → Sound g (length (s .image)) (outcome g recover s .state) (found g (s .image))
-  unfolding accepted
   sound-recovered s e =
       let a = recover-accepted g (s .image) (s .index) e in
-      rw (outcome-done g recover s e) (record {
+      rw (recover-done g s e) (record {
         ordered = record {
           geometry = a .0 .geometry;
           long = a .0 .long;

@@ -1,8 +1,9 @@
 -- "A host in C or Rust calls them with numbers and byte slices only": a geometry by number, and an answer as one number.
-use Prim.Native.Nat.{ℕ, _+_, _*_}
+use Prim.Native.Nat.{ℕ, _+_, _-_, _*_, _^_}
 use mathlib.Core.Bool.{cond}
 use mathlib.Core.List.{List}
 use lib.Dec.{eqb}
+use lib.IntN.{ℤ, pos, negsuc}
 use Rattle.paper.specs.declared.Geometry.{Geometry}
 use Rattle.paper.specs.declared.Answer.{Answer}
 use Rattle.paper.specs.Geometry.{bench, house}
@@ -16,18 +17,27 @@ noGeometry = record { page = 0; pages = 0; blocks = 0; entries = 0 }
 unfoldable pub geometryOf : ℕ → Geometry
 geometryOf n = cond (eqb n 0) bench (cond (eqb n 1) house noGeometry)
 
--- refusal × 2^32 + value
+-- below the refusal an answer has room for a value of 56 bits
+abbrev pub valueEnd : ℕ
+valueEnd = 2 ^ 56
+
+-- a value in these bits, one below 0 as its two's complement
+abbrev pub inBits56 : ℤ → ℕ
+inBits56 (pos v) = v
+inBits56 (negsuc m) = valueEnd - 1 - m
+
+-- refusal × 2^56 + value
 abbrev pub packed : Answer → ℕ
-packed a = numberOf a * 4294967296 + valueOf a
+packed a = numberOf a * valueEnd + inBits56 (valueOf a)
 
 -- all that a host sees of a call: its number, the buffer, and what is left in image and index
-pub record Seen : Type 0 where
+pub record HostSees : Type 0 where
   pub number : ℕ
   pub bytes : List ℕ
   pub state : State
 
-abbrev pub seen : ℕ → List ℕ → State → Seen
-seen n bytes s = record { number = n; bytes = bytes; state = s }
+abbrev pub sees : ℕ → List ℕ → State → HostSees
+sees n bytes s = record { number = n; bytes = bytes; state = s }
 
-abbrev pub shown : Outcome → Seen
-shown o = seen (packed (o .answer)) (o .bytes) (o .state)
+abbrev pub hostSees : Outcome → HostSees
+hostSees o = sees (packed (o .answer)) (o .bytes) (o .state)

@@ -3,12 +3,15 @@ ghost use mathlib.Core.Path.{_≡_};
 ghost use mathlib.Core.List.{[]};
 ghost use Rattle.paper.specs.Calls.{lay, «open», grow, load, store, size, release, recover};
 ghost use Rattle.paper.specs.Outcomes.{lent, outcome};
-ghost use Rattle.host.specs.Host.{geometryOf, packed, seen, shown};
+ghost use Rattle.host.specs.Host.{geometryOf, packed, sees, hostSees};
 use paper::Answer;
 use paper::Geometry;
 use paper::Offset;
 use paper::Pages;
 use paper::Region;
+
+// 2^56. A value lies below it, and a refusal is counted in it.
+const VALUE_END: u64 = 72057594037927936;
 
 // A number that names no geometry gives one that no call allows.
 fn geometry_of(n: u32) -> Geometry
@@ -34,20 +37,20 @@ fn pack(a: Answer) -> u64
 {
     match a {
         Answer::Done(v) => v,
-        Answer::Refused(k) => (k as u64) * 4294967296,
+        Answer::Refused(k) => (k as u64) * VALUE_END,
     }
 }
 
 #[no_mangle]
 pub extern "C" fn book_lay(geometry: u32, image: &mut [u8], index: &mut [u8]) -> u64
-    ensures { λ n. ⌜ seen n [] (lent (now (image .exit)) (now (index .exit))) ≡ shown (outcome (geometryOf geometry) lay (lent (now (image .entry)) (now (index .entry)))) ⌝ }
+    ensures { λ n. ⌜ sees n [] (lent (now (image .exit)) (now (index .exit))) ≡ hostSees (outcome (geometryOf geometry) lay (lent (now (image .entry)) (now (index .entry)))) ⌝ }
 {
     pack(laying::lay(geometry_of(geometry), image, index))
 }
 
 #[no_mangle]
 pub extern "C" fn book_open(geometry: u32, image: &mut [u8], index: &mut [u8]) -> u64
-    ensures { λ n. ⌜ seen n [] (lent (now (image .exit)) (now (index .exit))) ≡ shown (outcome (geometryOf geometry) «open» (lent (now (image .entry)) (now (index .entry)))) ⌝ }
+    ensures { λ n. ⌜ sees n [] (lent (now (image .exit)) (now (index .exit))) ≡ hostSees (outcome (geometryOf geometry) «open» (lent (now (image .entry)) (now (index .entry)))) ⌝ }
 {
     pack(books::open(geometry_of(geometry), image, index))
 }
@@ -60,7 +63,7 @@ pub extern "C" fn book_grow(
     region: u32,
     pages: u64,
 ) -> u64
-    ensures { λ n. ⌜ seen n [] (lent (now (image .exit)) (now (index .exit))) ≡ shown (outcome (geometryOf geometry) (grow region pages) (lent (now (image .entry)) (now (index .entry)))) ⌝ }
+    ensures { λ n. ⌜ sees n [] (lent (now (image .exit)) (now (index .exit))) ≡ hostSees (outcome (geometryOf geometry) (grow region pages) (lent (now (image .entry)) (now (index .entry)))) ⌝ }
 {
     pack(books::grow(
         geometry_of(geometry),
@@ -80,7 +83,7 @@ pub extern "C" fn book_load(
     offset: u64,
     buffer: &mut [u8],
 ) -> u64
-    ensures { λ n. ⌜ seen n (now (buffer .exit)) (lent (now (image .entry)) (now (index .entry))) ≡ shown (outcome (geometryOf geometry) (load region offset (now (buffer .entry))) (lent (now (image .entry)) (now (index .entry)))) ⌝ }
+    ensures { λ n. ⌜ sees n (now (buffer .exit)) (lent (now (image .entry)) (now (index .entry))) ≡ hostSees (outcome (geometryOf geometry) (load region offset (now (buffer .entry))) (lent (now (image .entry)) (now (index .entry)))) ⌝ }
 {
     pack(contents::load(
         geometry_of(geometry),
@@ -101,7 +104,7 @@ pub extern "C" fn book_store(
     offset: u64,
     bytes: &[u8],
 ) -> u64
-    ensures { λ n. ⌜ seen n [] (lent (now (image .exit)) (now (index .entry))) ≡ shown (outcome (geometryOf geometry) (store region offset (now (bytes .entry))) (lent (now (image .entry)) (now (index .entry)))) ⌝ }
+    ensures { λ n. ⌜ sees n [] (lent (now (image .exit)) (now (index .entry))) ≡ hostSees (outcome (geometryOf geometry) (store region offset (now (bytes .entry))) (lent (now (image .entry)) (now (index .entry)))) ⌝ }
 {
     pack(contents::store(
         geometry_of(geometry),
@@ -115,7 +118,7 @@ pub extern "C" fn book_store(
 
 #[no_mangle]
 pub extern "C" fn book_size(geometry: u32, image: &[u8], region: u32) -> u64
-    ensures { λ n. ⌜ seen n [] (lent (now (image .entry)) []) ≡ shown (outcome (geometryOf geometry) (size region) (lent (now (image .entry)) [])) ⌝ }
+    ensures { λ n. ⌜ sees n [] (lent (now (image .entry)) []) ≡ hostSees (outcome (geometryOf geometry) (size region) (lent (now (image .entry)) [])) ⌝ }
 {
     pack(desk::size(geometry_of(geometry), image, Region(region)))
 }
@@ -127,14 +130,14 @@ pub extern "C" fn book_release(
     index: &mut [u8],
     region: u32,
 ) -> u64
-    ensures { λ n. ⌜ seen n [] (lent (now (image .exit)) (now (index .exit))) ≡ shown (outcome (geometryOf geometry) (release region) (lent (now (image .entry)) (now (index .entry)))) ⌝ }
+    ensures { λ n. ⌜ sees n [] (lent (now (image .exit)) (now (index .exit))) ≡ hostSees (outcome (geometryOf geometry) (release region) (lent (now (image .entry)) (now (index .entry)))) ⌝ }
 {
     pack(books::release(geometry_of(geometry), image, index, Region(region)))
 }
 
 #[no_mangle]
 pub extern "C" fn book_recover(geometry: u32, image: &[u8], index: &mut [u8]) -> u64
-    ensures { λ n. ⌜ seen n [] (lent (now (image .entry)) (now (index .exit))) ≡ shown (outcome (geometryOf geometry) recover (lent (now (image .entry)) (now (index .entry)))) ⌝ }
+    ensures { λ n. ⌜ sees n [] (lent (now (image .entry)) (now (index .exit))) ≡ hostSees (outcome (geometryOf geometry) recover (lent (now (image .entry)) (now (index .entry)))) ⌝ }
 {
     pack(recovery::recover(geometry_of(geometry), image, index))
 }

@@ -1,17 +1,18 @@
 // The stored image: header and tables read and written, and the rules a to e checked. Nothing above this crate knows an offset of them.
 ghost use mathlib.Core.Path.{_≡_};
-ghost use Prim.Native.Nat.{_+_, _<_, _≤_};
+ghost use Prim.Native.Nat.{_^_, _<_, _≤_};
 ghost use mathlib.Core.Bool.{not};
 ghost use lib.Dec.{eqb};
 ghost use Rattle.laws.specs.Folds.{allBelow, allFrom};
 ghost use Rattle.paper.specs.Geometry.{fixedRegions, noRegion};
-ghost use Rattle.paper.specs.Image.{front, stamped, taken, counter, owner, place, names, pagesOf, isOpen, needOf, setTaken, setCounter, setEntry, setPages, setNotOpen};
+ghost use Rattle.paper.specs.Image.{front, stamp, taken, counter, owner, place, names, pagesOf, isOpen, needOf, setTaken, setCounter, setEntry, setPages, setNotOpen};
 ghost use Rattle.paper.specs.WellFormed.{ruleA, fits, ruleB, ruleC, named, ruleE};
 ghost use Rattle.paper.specs.Refusals.{headerRight};
-ghost use Rattle.image.specs.Readable.{Readable, fronted};
+ghost use Rattle.rules.specs.Facts.{Readable, fronted};
 use paper::Block;
 use paper::Geometry;
 use paper::Pages;
+use paper::Position;
 use paper::Region;
 
 // ---- what stands in the header and the tables
@@ -23,11 +24,11 @@ pub fn taken(g: Geometry, image: &[u8]) -> u16
     numbers::read_u16(image, paper::TAKEN_AT)
 }
 
-pub fn counter(g: Geometry, image: &[u8]) -> u16
+pub fn counter(g: Geometry, image: &[u8]) -> Region
     requires { ⌜ Readable g (now image) ⌝ }
-    ensures { λ n. ⌜ n ≡ counter g (front g (now (image .entry))) ⌝ }
+    ensures { λ r. ⌜ r .0 ≡ counter g (front g (now (image .entry))) ⌝ }
 {
-    numbers::read_u16(image, paper::COUNTER_AT)
+    Region(numbers::read_u16(image, paper::COUNTER_AT) as u32)
 }
 
 pub fn owner(g: Geometry, image: &[u8], b: Block) -> Region
@@ -38,12 +39,12 @@ pub fn owner(g: Geometry, image: &[u8], b: Block) -> Region
     Region(numbers::read_u16(image, g.entry_at(b)) as u32)
 }
 
-pub fn place(g: Geometry, image: &[u8], b: Block) -> u16
+pub fn place(g: Geometry, image: &[u8], b: Block) -> Position
     requires { ⌜ Readable g (now image) ⌝ }
     requires { ⌜ b .0 < g .blocks ⌝ }
-    ensures { λ p. ⌜ p ≡ place g (front g (now (image .entry))) (b .0) ⌝ }
+    ensures { λ p. ⌜ p .0 ≡ place g (front g (now (image .entry))) (b .0) ⌝ }
 {
-    numbers::read_u16(image, g.entry_at(b) + 2)
+    Position(numbers::read_u16(image, g.entry_at(b) + 2) as usize)
 }
 
 pub fn is_open(g: Geometry, image: &[u8], r: Region) -> bool
@@ -80,7 +81,7 @@ pub fn need(g: Geometry, image: &[u8], r: Region) -> u64
     g.need(pages(g, image, r))
 }
 
-// ---- one number written anew
+// ---- one number written anew. Regions and positions have two bytes in the header and in a block's entry
 
 pub fn set_taken(g: Geometry, image: &mut [u8], n: u16)
     requires { ⌜ Readable g (now image) ⌝ }
@@ -89,21 +90,22 @@ pub fn set_taken(g: Geometry, image: &mut [u8], n: u16)
     numbers::write_u16(image, paper::TAKEN_AT, n);
 }
 
-pub fn set_counter(g: Geometry, image: &mut [u8], n: u16)
+pub fn set_counter(g: Geometry, image: &mut [u8], r: Region)
     requires { ⌜ Readable g (now image) ⌝ }
-    ensures { λ _. ⌜ now (image .exit) ≡ fronted g (setCounter g n (front g (now (image .entry)))) (now (image .entry)) ⌝ }
+    requires { ⌜ r .0 < 2 ^ 16 ⌝ }
+    ensures { λ _. ⌜ now (image .exit) ≡ fronted g (setCounter g (r .0) (front g (now (image .entry)))) (now (image .entry)) ⌝ }
 {
-    numbers::write_u16(image, paper::COUNTER_AT, n);
+    numbers::write_u16(image, paper::COUNTER_AT, r.0 as u16);
 }
 
-pub fn set_entry(g: Geometry, image: &mut [u8], b: Block, r: u16, p: u16)
+pub fn set_entry(g: Geometry, image: &mut [u8], b: Block, r: Region, p: Position)
     requires { ⌜ Readable g (now image) ⌝ }
-    requires { ⌜ b .0 < g .blocks ⌝ }
-    ensures { λ _. ⌜ now (image .exit) ≡ fronted g (setEntry g (b .0) r p (front g (now (image .entry)))) (now (image .entry)) ⌝ }
+    requires { ⌜ (b .0 < g .blocks) × (r .0 < 2 ^ 16) × (p .0 < 2 ^ 16) ⌝ }
+    ensures { λ _. ⌜ now (image .exit) ≡ fronted g (setEntry g (b .0) (r .0) (p .0) (front g (now (image .entry)))) (now (image .entry)) ⌝ }
 {
     let at = g.entry_at(b);
-    numbers::write_u16(image, at, r);
-    numbers::write_u16(image, at + 2, p);
+    numbers::write_u16(image, at, r.0 as u16);
+    numbers::write_u16(image, at + 2, p.0 as u16);
 }
 
 pub fn set_pages(g: Geometry, image: &mut [u8], r: Region, n: Pages)
@@ -124,9 +126,10 @@ pub fn set_not_open(g: Geometry, image: &mut [u8], r: Region)
 
 // ---- the header checked
 
+// Whether marker, version and the last four bytes are right, so that the front has a stamp.
 fn stamped(g: Geometry, image: &[u8]) -> bool
     requires { ⌜ Readable g (now image) ⌝ }
-    ensures { λ t. ⌜ t ≡ stamped g (front g (now (image .entry))) ⌝ }
+    ensures { λ t. ⌜ t ≡ not (eqb (stamp g (front g (now (image .entry)))) 0) ⌝ }
 {
     if numbers::read_u32(image, paper::MARKER_AT) != 0 {
         return false;
@@ -147,24 +150,24 @@ pub fn header_right(g: Geometry, image: &[u8]) -> bool
     if g.blocks < taken(g, image) as usize {
         return false;
     }
-    let c = counter(g, image) as usize;
-    if c < paper::FIXED_REGIONS {
+    let c = counter(g, image);
+    if c.0 < paper::FIXED_REGIONS {
         return false;
     }
-    c <= g.no_region()
+    c.0 <= g.no_region().0
 }
 
 // ---- the rules a to e checked, each in one pass
 
 // Regions 2 to 15 are kept back.
-const FIRST_KEPT: usize = 2;
+const FIRST_KEPT: Region = Region(2);
 
 fn low_open(g: Geometry, image: &[u8]) -> bool
     requires { ⌜ Readable g (now image) ⌝ }
     ensures { λ t. ⌜ t ≡ allBelow fixedRegions (isOpen g (front g (now (image .entry)))) ⌝ }
 {
     for r in 0..paper::FIXED_REGIONS {
-        if !is_open(g, image, Region(r as u32)) {
+        if !is_open(g, image, Region(r)) {
             return false;
         }
     }
@@ -175,7 +178,7 @@ fn high_not_open(g: Geometry, image: &[u8]) -> bool
     requires { ⌜ Readable g (now image) ⌝ }
     ensures { λ t. ⌜ t ≡ allFrom (counter g (front g (now (image .entry)))) (g .entries) (λ r. not (isOpen g (front g (now (image .entry))) r)) ⌝ }
 {
-    let c = counter(g, image) as usize;
+    let c = counter(g, image).0 as usize;
     for r in c..g.entries {
         if is_open(g, image, Region(r as u32)) {
             return false;
@@ -201,7 +204,7 @@ fn all_fit(g: Geometry, image: &[u8]) -> bool
 {
     let most = g.most_book_pages();
     for r in 0..g.entries {
-        if most < pages(g, image, Region(r as u32)).0 {
+        if most.0 < pages(g, image, Region(r as u32)).0 {
             return false;
         }
     }
@@ -212,8 +215,8 @@ fn kept_empty(g: Geometry, image: &[u8]) -> bool
     requires { ⌜ Readable g (now image) ⌝ }
     ensures { λ t. ⌜ t ≡ allFrom 2 fixedRegions (λ r. eqb (pagesOf g (front g (now (image .entry))) r) 0) ⌝ }
 {
-    for r in FIRST_KEPT..paper::FIXED_REGIONS {
-        if pages(g, image, Region(r as u32)).0 != 0 {
+    for r in FIRST_KEPT.0..paper::FIXED_REGIONS {
+        if pages(g, image, Region(r)).0 != 0 {
             return false;
         }
     }
@@ -256,7 +259,7 @@ fn named(g: Geometry, image: &[u8], b: Block) -> bool
     ensures { λ t. ⌜ t ≡ named g (front g (now (image .entry))) (b .0) ⌝ }
 {
     let r = owner(g, image, b);
-    (place(g, image, b) as u64) < need(g, image, r)
+    (place(g, image, b).0 as u64) < need(g, image, r)
 }
 
 // Rule d but for its last sentence.
@@ -279,10 +282,10 @@ fn names_none(g: Geometry, image: &[u8], b: Block) -> bool
     requires { ⌜ b .0 < g .blocks ⌝ }
     ensures { λ t. ⌜ t ≡ names g (front g (now (image .entry))) (noRegion g) 0 (b .0) ⌝ }
 {
-    if owner(g, image, b).0 as usize != g.no_region() {
+    if owner(g, image, b).0 != g.no_region().0 {
         return false;
     }
-    place(g, image, b) == 0
+    place(g, image, b).0 == 0
 }
 
 pub fn rule_e(g: Geometry, image: &[u8]) -> bool

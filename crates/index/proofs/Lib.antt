@@ -1,6 +1,5 @@
 -- The laws of slots, and of an index that bears witness to the tables.
 pub mod Slots
-pub mod Numbers
-pub mod Written
+pub mod Filling
 pub mod Witness
 pub mod Repeats

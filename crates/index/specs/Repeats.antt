@@ -39,9 +39,9 @@ module _ (g : Geometry) (t : List ℕ) where
 
   -- a window's slots are slots of its regions
   pub record Framed (w : Window) (starts : List ℕ) : Type 0 where
-    pub order : w .first ≤ w .last
-    pub regions : w .last ≤ g .entries
-    pub room : w .last ≤ w .first + length starts
-    pub known : StartsFrom (w .first) (w .last) starts
-    pub low : startOf g t (w .first) ≤ w .from
-    pub high : w .to ≤ startOf g t (w .last)
+    pub order : w .first .0 ≤ w .last .0
+    pub regions : w .last .0 ≤ g .entries
+    pub room : w .last .0 ≤ w .first .0 + length starts
+    pub known : StartsFrom (w .first .0) (w .last .0) starts
+    pub low : startOf g t (w .first .0) ≤ w .from
+    pub high : w .to ≤ startOf g t (w .last .0)

@@ -1,6 +1,6 @@
 // The index: what a lent one says, its writing, and its check against the tables.
 ghost use mathlib.Core.Path.{_≡_};
-ghost use Prim.Native.Nat.{_+_, _≤_, _<_, min};
+ghost use Prim.Native.Nat.{_+_, _≤_, _<_};
 ghost use lib.ListN.{length};
 ghost use Rattle.laws.specs.Bytes.{put};
 ghost use Rattle.laws.specs.Folds.{allBelow, allFrom};
@@ -8,11 +8,9 @@ ghost use Rattle.paper.specs.Geometry.{slotAt};
 ghost use Rattle.paper.specs.Image.{front, taken, owner};
 ghost use Rattle.paper.specs.Index.{indexOf, startOf, startIn, slotIn};
 ghost use Rattle.paper.specs.WellFormed.{alone};
-ghost use Rattle.rules.specs.Facts.{Rules};
-ghost use Rattle.rules.specs.Facts.{slotFor};
-ghost use Rattle.image.specs.Readable.{Readable};
+ghost use Rattle.rules.specs.Facts.{Rules, Readable, Indexed, slotFor};
 ghost use Rattle.index.specs.Slotted.{Tabled};
-ghost use Rattle.index.specs.Witnessed.{Indexed, Starts, Spare, Witness, startRight, blockRight, spareRight, witnessed};
+ghost use Rattle.index.specs.Witnessed.{Starts, Spare, Witness, startRight, blockRight, spareRight, witnessed};
 ghost use Rattle.index.specs.Repeats.{unseen, marked, apart, StartsFrom, Framed};
 use paper::Block;
 use paper::Geometry;
@@ -28,12 +26,13 @@ pub fn start_in(g: Geometry, index: &[u8], r: Region) -> u16
     numbers::read_u16(index, g.start_at(r))
 }
 
-pub fn slot_in(g: Geometry, index: &[u8], s: usize) -> u16
+// NO_BLOCK in an unused slot.
+pub fn slot_in(g: Geometry, index: &[u8], s: usize) -> Block
     requires { ⌜ Indexed g (now index) ⌝ }
     requires { ⌜ s < g .blocks ⌝ }
-    ensures { λ n. ⌜ n ≡ slotIn g (now (index .entry)) s ⌝ }
+    ensures { λ b. ⌜ b .0 ≡ slotIn g (now (index .entry)) s ⌝ }
 {
-    numbers::read_u16(index, g.slot_at(s))
+    Block(numbers::read_u16(index, g.slot_at(s)))
 }
 
 // Block b's slot, where the index has its starts.
@@ -43,9 +42,9 @@ fn slot_for(g: Geometry, image: &[u8], index: &[u8], b: Block) -> usize
     requires { ⌜ b .0 < taken g (front g (now image)) ⌝ }
     ensures { λ s. ⌜ s ≡ slotFor g (front g (now (image .entry))) (b .0) ⌝ }
 {
-    let start = start_in(g, index, image::owner(g, image, b));
-    let place = image::place(g, image, b);
-    start as usize + place as usize
+    let start = start_in(g, index, image::owner(g, image, b)) as usize;
+    let place = image::place(g, image, b).0;
+    start + place
 }
 
 // ---- its writing
@@ -92,7 +91,7 @@ pub fn write_index(g: Geometry, image: &[u8], index: &mut [u8])
     ensures { λ _. ⌜ now (index .exit) ≡ indexOf g (front g (now (image .entry))) ⌝ }
 {
     write_starts(g, image, index);
-    numbers::fill_u16(index, g.slot_at(0), g.blocks, paper::NO_BLOCK);
+    numbers::fill_u16(index, g.slot_at(0), g.blocks, paper::NO_BLOCK.0);
     put_blocks(g, image, index);
 }
 
@@ -119,7 +118,7 @@ fn blocks_right(g: Geometry, image: &[u8], index: &[u8]) -> bool
     ensures { λ t. ⌜ t ≡ allBelow (taken g (front g (now (image .entry)))) (blockRight g (front g (now (image .entry))) (now (index .entry))) ⌝ }
 {
     for b in 0..image::taken(g, image) {
-        if slot_in(g, index, slot_for(g, image, index, Block(b))) != b {
+        if slot_in(g, index, slot_for(g, image, index, Block(b))).0 != b {
             return false;
         }
     }
@@ -131,7 +130,7 @@ fn spare_right(g: Geometry, image: &[u8], index: &[u8]) -> bool
     ensures { λ t. ⌜ t ≡ allFrom (taken g (front g (now (image .entry)))) (g .blocks) (spareRight g (front g (now (image .entry))) (now (index .entry))) ⌝ }
 {
     for s in image::taken(g, image) as usize..g.blocks {
-        if slot_in(g, index, s) != paper::NO_BLOCK {
+        if slot_in(g, index, s).0 != paper::NO_BLOCK.0 {
             return false;
         }
     }
@@ -161,39 +160,31 @@ const SLOTS_AT_ONCE: usize = 8192;
 
 // Regions from `first` up to `last`, and of their slots those from `from` up to `to`.
 struct Window {
-    first: usize,
-    last: usize,
+    first: Region,
+    last: Region,
     from: usize,
     to: usize,
-}
-
-fn least(a: usize, b: usize) -> usize
-    ensures { λ r. ⌜ r ≡ min a b ⌝ }
-{
-    if a < b {
-        return a;
-    }
-    b
 }
 
 // The starts of the regions from `first` up to `last`, of which `start` is the first; answers the start after them.
 fn read_starts(
     g: Geometry,
     image: &[u8],
-    first: usize,
-    last: usize,
+    first: Region,
+    last: Region,
     start: usize,
     starts: &mut [u16],
 ) -> usize
     requires { ⌜ Tabled g (now image) ⌝ }
-    requires { ⌜ (first ≤ last) × (last ≤ g .entries) × (last ≤ first + length (now starts)) ⌝ }
-    requires { ⌜ start ≡ startOf g (front g (now image)) first ⌝ }
-    ensures { λ e. ⌜ (e ≡ startOf g (front g (now (image .entry))) last) × StartsFrom g (front g (now (image .entry))) first last (now (starts .exit)) ⌝ }
+    requires { ⌜ (first .0 ≤ last .0) × (last .0 ≤ g .entries) × (last .0 ≤ first .0 + length (now starts)) ⌝ }
+    requires { ⌜ start ≡ startOf g (front g (now image)) (first .0) ⌝ }
+    ensures { λ e. ⌜ (e ≡ startOf g (front g (now (image .entry))) (last .0)) × StartsFrom g (front g (now (image .entry))) (first .0) (last .0) (now (starts .exit)) ⌝ }
 {
     let mut sum = start;
-    for r in first..last {
-        starts[r - first] = sum as u16;
-        sum += image::need(g, image, Region(r as u32)) as usize;
+    for r in first.0..last.0 {
+        let nth = (r - first.0) as usize;
+        starts[nth] = sum as u16;
+        sum += image::need(g, image, Region(r)) as usize;
     }
     sum
 }
@@ -202,11 +193,11 @@ fn read_starts(
 fn window_slot(g: Geometry, image: &[u8], w: Window, starts: &[u16], b: Block) -> usize
     requires { ⌜ Tabled g (now image) × Framed g (front g (now image)) w (now starts) ⌝ }
     requires { ⌜ b .0 < taken g (front g (now image)) ⌝ }
-    requires { ⌜ (w .first ≤ owner g (front g (now image)) (b .0)) × (owner g (front g (now image)) (b .0) < w .last) ⌝ }
+    requires { ⌜ (w .first .0 ≤ owner g (front g (now image)) (b .0)) × (owner g (front g (now image)) (b .0) < w .last .0) ⌝ }
     ensures { λ s. ⌜ s ≡ slotFor g (front g (now (image .entry))) (b .0) ⌝ }
 {
-    let nth = image::owner(g, image, b).0 as usize - w.first;
-    starts[nth] as usize + image::place(g, image, b) as usize
+    let nth = (image::owner(g, image, b).0 - w.first.0) as usize;
+    starts[nth] as usize + image::place(g, image, b).0
 }
 
 // Marks block b's slot, where it is one of the window's; false where it is marked already.
@@ -217,11 +208,11 @@ fn mark(g: Geometry, image: &[u8], w: Window, starts: &[u16], seen: &mut [u8], b
     ensures { λ t. ⌜ t ≡ unseen (w .from) (w .to) (slotFor g (front g (now (image .entry))) (b .0)) (now (seen .entry)) ⌝ }
     ensures { λ _. ⌜ now (seen .exit) ≡ marked (w .from) (w .to) (slotFor g (front g (now (image .entry))) (b .0)) (now (seen .entry)) ⌝ }
 {
-    let r = image::owner(g, image, b).0 as usize;
-    if r < w.first {
+    let r = image::owner(g, image, b);
+    if r.0 < w.first.0 {
         return true;
     }
-    if w.last <= r {
+    if w.last.0 <= r.0 {
         return true;
     }
     let s = window_slot(g, image, w, starts, b);
@@ -260,10 +251,12 @@ fn windows_apart(g: Geometry, image: &[u8], w: Window, starts: &[u16], seen: &mu
 {
     let mut from = w.from;
     while from < w.to {
-        let to = from + least(w.to - from, seen.len());
+        let to = from + numbers::lesser(w.to - from, seen.len());
+        let first = w.first;
+        let last = w.last;
         let part = Window {
-            first: w.first,
-            last: w.last,
+            first,
+            last,
             from,
             to,
         };
@@ -281,10 +274,12 @@ fn all_apart(g: Geometry, image: &[u8], starts: &mut [u16], seen: &mut [u8]) -> 
     requires { ⌜ (0 < length (now starts)) × (0 < length (now seen)) ⌝ }
     ensures { λ t. ⌜ t ≡ apart g (front g (now (image .entry))) 0 (taken g (front g (now (image .entry)))) ⌝ }
 {
-    let mut first = 0;
+    let mut r = 0;
     let mut from = 0;
-    while first < g.entries {
-        let last = first + least(g.entries - first, starts.len());
+    while r < g.entries {
+        let end = r + numbers::lesser(g.entries - r, starts.len());
+        let first = Region(r as u32);
+        let last = Region(end as u32);
         let to = read_starts(g, image, first, last, from, starts);
         let w = Window {
             first,
@@ -295,7 +290,7 @@ fn all_apart(g: Geometry, image: &[u8], starts: &mut [u16], seen: &mut [u8]) -> 
         if !windows_apart(g, image, w, starts, seen) {
             return false;
         }
-        first = last;
+        r = end;
         from = to;
     }
     true

@@ -1,1 +1,1 @@
--- The contracts cite the definitions of laws and paper alone.
+-- The contracts cite the definitions of laws, paper and rules alone.

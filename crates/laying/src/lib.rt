@@ -1,29 +1,29 @@
 // The call that lays an empty image.
 ghost use mathlib.Core.Path.{_≡_};
-ghost use mathlib.Core.Bool.{cond};
-ghost use mathlib.Core.List.{[], _++_};
-ghost use Prim.Native.Nat.{_+_, _≤_};
-ghost use lib.Dec.{ltb};
+ghost use mathlib.Core.List.{[]};
+ghost use Prim.Native.Nat.{_+_, _^_, _≤_, _<_};
 ghost use lib.ListN.{length};
 ghost use Rattle.laws.specs.Folds.{joinBelow};
-ghost use Rattle.laws.specs.Bytes.{le, splice};
-ghost use Rattle.paper.specs.Geometry.{headerBytes, fixedRegions, allOnes, Allowed, indexBytes, sizeAt};
+ghost use Rattle.laws.specs.Bytes.{splice, put};
+ghost use Rattle.paper.specs.Geometry.{headerBytes, version, fixedRegions, noRegion, sizeAt};
+ghost use Rattle.paper.specs.Image.{coded, writtenHeader, entryRow, sizeRow};
 ghost use Rattle.paper.specs.Index.{emptyIndex};
-ghost use Rattle.paper.specs.Calls.{lay, laidHeader, laidEntry, laidSize, laid};
+ghost use Rattle.paper.specs.Calls.{lay, laidSize, laid};
 ghost use Rattle.paper.specs.Refusals.{blank, refusal};
 ghost use Rattle.paper.specs.Outcomes.{lent, gives, outcome};
-ghost use Rattle.image.specs.Readable.{Readable, fronted};
+ghost use Rattle.rules.specs.Facts.{Readable, Indexed, fronted};
 use paper::Answer;
 use paper::Block;
 use paper::Geometry;
+use paper::Position;
 use paper::Region;
 
 // ---- header and tables
 
 // N is 0, and C the first region that can be opened.
-fn write_header(g: Geometry, image: &mut [u8])
+fn write_header(image: &mut [u8])
     requires { ⌜ headerBytes ≤ length (now image) ⌝ }
-    ensures { λ _. ⌜ now (image .exit) ≡ splice 0 (laidHeader g) (now (image .entry)) ⌝ }
+    ensures { λ _. ⌜ now (image .exit) ≡ splice 0 (writtenHeader version 0 fixedRegions) (now (image .entry)) ⌝ }
 {
     numbers::write_u32(image, paper::MARKER_AT, 0);
     numbers::write_u32(image, paper::VERSION_AT, paper::VERSION);
@@ -32,29 +32,30 @@ fn write_header(g: Geometry, image: &mut [u8])
     numbers::write_u32(image, paper::BLANK_AT, 0);
 }
 
-fn write_entry(image: &mut [u8], at: usize, r: u16, p: u16)
-    requires { ⌜ at + 4 ≤ length (now image) ⌝ }
-    ensures { λ _. ⌜ now (image .exit) ≡ splice at (le 2 r ++ le 2 p) (now (image .entry)) ⌝ }
+fn write_entry(image: &mut [u8], at: usize, r: Region, p: Position)
+    requires { ⌜ (at + 4 ≤ length (now image)) × (r .0 < 2 ^ 16) × (p .0 < 2 ^ 16) ⌝ }
+    ensures { λ _. ⌜ now (image .exit) ≡ put 2 (at + 2) (p .0) (put 2 at (r .0) (now (image .entry))) ⌝ }
 {
-    numbers::write_u16(image, at, r);
-    numbers::write_u16(image, at + 2, p);
+    numbers::write_u16(image, at, r.0 as u16);
+    numbers::write_u16(image, at + 2, p.0 as u16);
 }
 
+// No block is taken: each holds region E-1, position 0.
 fn write_blocks(g: Geometry, image: &mut [u8])
     requires { ⌜ Readable g (now image) ⌝ }
-    ensures { λ _. ⌜ now (image .exit) ≡ splice headerBytes (joinBelow (g .blocks) (laidEntry g)) (now (image .entry)) ⌝ }
+    ensures { λ _. ⌜ now (image .exit) ≡ splice headerBytes (joinBelow (g .blocks) (entryRow (λ b. noRegion g) (λ b. 0))) (now (image .entry)) ⌝ }
 {
-    let none = g.no_region() as u16;
+    let none = g.no_region();
     for b in 0..g.blocks {
-        write_entry(image, g.entry_at(Block(b as u16)), none, 0);
+        write_entry(image, g.entry_at(Block(b as u16)), none, Position(0));
     }
 }
 
-// Regions 0 to 15 are open and empty, and no other is open.
-fn laid_pages(r: usize) -> u64
-    ensures { λ n. ⌜ n ≡ cond (ltb r fixedRegions) 0 allOnes ⌝ }
+// What stands in a region's entry: regions 0 to 15 are open and empty, and no other is open.
+fn laid_size(r: Region) -> u64
+    ensures { λ n. ⌜ n ≡ coded (laidSize (r .0)) ⌝ }
 {
-    if r < paper::FIXED_REGIONS {
+    if r.0 < paper::FIXED_REGIONS {
         return 0;
     }
     paper::ALL_ONES
@@ -62,10 +63,11 @@ fn laid_pages(r: usize) -> u64
 
 fn write_regions(g: Geometry, image: &mut [u8])
     requires { ⌜ Readable g (now image) ⌝ }
-    ensures { λ _. ⌜ now (image .exit) ≡ splice (sizeAt g 0) (joinBelow (g .entries) (laidSize g)) (now (image .entry)) ⌝ }
+    ensures { λ _. ⌜ now (image .exit) ≡ splice (sizeAt g 0) (joinBelow (g .entries) (sizeRow laidSize)) (now (image .entry)) ⌝ }
 {
     for r in 0..g.entries {
-        numbers::write_u64(image, g.size_at(Region(r as u32)), laid_pages(r));
+        let region = Region(r as u32);
+        numbers::write_u64(image, g.size_at(region), laid_size(region));
     }
 }
 
@@ -73,19 +75,19 @@ fn write_tables(g: Geometry, image: &mut [u8])
     requires { ⌜ Readable g (now image) ⌝ }
     ensures { λ _. ⌜ now (image .exit) ≡ fronted g (laid g) (now (image .entry)) ⌝ }
 {
-    write_header(g, image);
+    write_header(image);
     write_blocks(g, image);
     write_regions(g, image);
 }
 
 // ---- the empty index
 
-fn write_index(g: Geometry, index: &mut [u8])
-    requires { ⌜ Allowed g × (length (now index) ≡ indexBytes g) ⌝ }
+fn write_empty_index(g: Geometry, index: &mut [u8])
+    requires { ⌜ Indexed g (now index) ⌝ }
     ensures { λ _. ⌜ now (index .exit) ≡ emptyIndex g ⌝ }
 {
     numbers::fill_u16(index, 0, g.entries + 1, 0);
-    numbers::fill_u16(index, g.slot_at(0), g.blocks, paper::NO_BLOCK);
+    numbers::fill_u16(index, g.slot_at(0), g.blocks, paper::NO_BLOCK.0);
 }
 
 // ---- refusals 1, 2, 3, 12
@@ -130,6 +132,6 @@ pub fn lay(g: Geometry, image: &mut [u8], index: &mut [u8]) -> Answer
         return Answer::Refused(no);
     }
     write_tables(g, image);
-    write_index(g, index);
+    write_empty_index(g, index);
     Answer::Done(0)
 }

@@ -1,3 +1,2 @@
--- Which number recovery's checks answer, and those of a lent index; and what recovery leaves.
+-- Which number recovery's checks answer, and those of a lent index.
 pub mod Refused
-pub mod Recovered

@@ -1,34 +1,28 @@
--- Checks 6 and 7: the rules but for the last sentence of d, then that sentence; and which number is answered.
+-- The rules but for the last sentence of d, then that sentence; and what a lent index bears witness to.
 use Prim.Native.Nat.{ℕ}
 use mathlib.Core.Bool.{Bool, true, false, _&&_}
 use mathlib.Core.Logic.{_≢_}
 use mathlib.Core.Path.{_≡_, refl, sym, _∙_}
-use mathlib.Core.List.{List, [], _∷_}
+use mathlib.Core.List.{List}
 use borrow.Author.Tests.{ltb-true}
 use Rattle.laws.specs.Folds.{allBelow}
 use Rattle.laws.specs.Bytes.{same}
-use Rattle.laws.proofs.Tests.{and-left, and-right, and-parts, not-of-true, not-of-false}
+use Rattle.laws.proofs.Tests.{clash, and-left, and-right, and-parts}
+use Rattle.laws.proofs.Lists.{same-refl}
+use Rattle.laws.proofs.Known.{Bytes}
 use Rattle.laws.proofs.Folds.{all-below}
 use Rattle.paper.specs.declared.Geometry.{Geometry}
 use Rattle.paper.specs.Image.{front, taken, owner, isOpen}
 use Rattle.paper.specs.WellFormed.{ruleA, ruleB, ruleC, named, alone, ruleD, ruleE, inOrder}
 use Rattle.paper.specs.Index.{indexOf}
-use Rattle.paper.specs.Calls.{recover}
-use Rattle.paper.specs.Refusals.{first, no6, no7, checks, refusal}
-use Rattle.paper.specs.declared.Answer.the-variants.{Done}
-use Rattle.paper.specs.Outcomes.{lent, gives, accepted, outcome}
-use Rattle.rules.specs.Facts.{Entered}
+use Rattle.rules.specs.Facts.{Indexed, Entered}
+use Rattle.rules.specs.Lines.{orderedNo}
 use Rattle.rules.proofs.Facts.{once-alone, ruleC-facts, order-rules}
-use Rattle.laws.proofs.Known.{Bytes}
-use Rattle.rules.proofs.First.{first-nil, first-pass, first-halt, pass5, entered-formed, to7, pass7, passed7}
-use Rattle.rules.proofs.Checks.{recover-accepted}
-use Rattle.rules.proofs.Outcomes.{outcome-done}
-use Rattle.desk.specs.Shared.{indexedChecks, EarlyIndexed}
-use Rattle.desk.proofs.Shared.{first-stop, entered-readable}
+use Rattle.rules.proofs.Lines.{entered-whole, ordered-7, ordered-0}
 use Rattle.index.specs.Slotted.{Slotted, Tabled}
-use Rattle.index.specs.Witnessed.{Indexed, witnessed}
+use Rattle.index.specs.Witnessed.{witnessed}
 use Rattle.index.proofs.Witness.{witnessed-once, witnessed-index, witnessed-same}
-use Rattle.recovery.specs.Refused.{loosely, Recoverable, InOrder}
+use Rattle.recovery.specs.Refused.{loosely}
 
 module _ (g : Geometry) (t : List ℕ) where
   pub loosely-facts : loosely g t ≡ true → Slotted g t
@@ -59,69 +53,27 @@ module _ (g : Geometry) (t : List ℕ) where
   pub order-not-loose : loosely g t ≡ false → inOrder g t ≡ false
   order-not-loose e = order-last ∙ rw e
 
-module _ (g : Geometry) (image index : List ℕ) where
+module _ (g : Geometry) (image index : List ℕ) (E : Entered g image index) where
   abbrev t : List ℕ
   t = front g image
 
-  -- ---- 1 to 6
-  pub recoverable : (k : ℕ) → k ≡ refusal g image index recover → Recoverable g image index k
-  recoverable k e = record {
-    number = e;
-    entered = λ z. recover-accepted g image index (sym e ∙ z) .0;
-    rules = λ z. recover-accepted g image index (sym e ∙ z) .1;
-  }
+  -- what the check of the index asks
+  lent-index : Indexed g index
+  lent-index = record { allowed = E .geometry; long = E .indexed }
 
-  pub recover-stop : (k : ℕ) → EarlyIndexed g image index k → k ≢ 0 → Recoverable g image index k
-  unfolding checks
-  recover-stop k E ne = recoverable k (sym (first-stop (indexedChecks g image index) (no6 g image index ∷ []) refl k (sym (E .number)) ne))
+  pub tabled : loosely g (front g image) ≡ true → Tabled g image × Indexed g index
+  tabled l =
+      (record { readable = entered-whole g image index E .headed .readable; bound = E .header .taken-most; slotted = loosely-facts g t l }, lent-index)
 
-  pub recover-done : refusal g image index recover ≡ 0
-      → gives (Done 0) [] (lent image (indexOf g t)) ≡ outcome g recover (lent image index)
-  unfolding accepted
-  recover-done e = sym (outcome-done g recover (lent image index) e)
+  module _ (bytes : Bytes index) where
+    pub order-0 : loosely g (front g image) ≡ true → witnessed g (front g image) index ≡ true → orderedNo g image index ≡ 0
+    order-0 l w =
+        let R = order-rules g t (order-loose g t l ∙ once-alone g t (witnessed-once g t index w)) in
+        ordered-0 g image index E R (witnessed-index g t index lent-index bytes R (E .header .taken-most) w)
 
-  -- ---- 1 to 7
-  in-order : (k : ℕ) → k ≡ first (to7 g image index []) → InOrder g image index k
-  in-order k e = record { number = e; ordered = λ z. passed7 g image index [] (sym e ∙ z) .0 }
-
-  pub order-stop : (k : ℕ) → EarlyIndexed g image index k → k ≢ 0 → InOrder g image index k
-  order-stop k E ne =
-      in-order k (sym (first-stop (indexedChecks g image index) (no6 g image index ∷ no7 g image index ∷ []) refl k (sym (E .number)) ne))
-
-  module _ (E : Entered g image index) where
-    pub recover-6 : inOrder g t ≡ false → Recoverable g image index 6
-    unfolding checks
-    recover-6 e = recoverable 6 (sym (pass5 g image index E (no6 g image index ∷ []) ∙ first-halt 6 _ _ (not-of-false e)))
-
-    pub recover-0 : inOrder g t ≡ true → Recoverable g image index 0
-    unfolding checks
-    recover-0 e = recoverable 0 (sym (pass5 g image index E (no6 g image index ∷ []) ∙ first-pass 6 _ _ (not-of-true e) ∙ first-nil))
-
-    pub order-6 : inOrder g t ≡ false → InOrder g image index 6
-    order-6 e = in-order 6 (sym (pass5 g image index E (no6 g image index ∷ no7 g image index ∷ []) ∙ first-halt 6 _ _ (not-of-false e)))
-
-    -- what the check of the index asks
-    lent-index : Indexed g index
-    lent-index = record { allowed = E .geometry; long = E .indexed }
-
-    pub tabled : loosely g t ≡ true → Tabled g image × Indexed g index
-    tabled l =
-        (record { readable = entered-readable g image index E; bound = E .header .taken-most; slotted = loosely-facts g t l }, lent-index)
-
-    module _ (bytes : Bytes index) where
-      pub order-0 : loosely g t ≡ true → witnessed g t index ≡ true → InOrder g image index 0
-      order-0 l w =
-          let R = order-rules g t (order-loose g t l ∙ once-alone g t (witnessed-once g t index w)) in
-          in-order 0 (sym (pass7 g image index (record {
-            geometry = E .geometry;
-            long = E .long;
-            formed = entered-formed g image index E R;
-            recovered = witnessed-index g t index lent-index bytes R (E .header .taken-most) w;
-          }) [] ∙ first-nil))
-
-      pub order-7 : witnessed g t index ≡ false → inOrder g t ≡ true → InOrder g image index 7
-      order-7 w e =
-          let R = order-rules g t e in
-          let d : same index (indexOf g t) ≡ false = sym (witnessed-same g t index lent-index bytes R (E .header .taken-most)) ∙ w in
-          in-order 7
-          (sym (pass5 g image index E (no6 g image index ∷ no7 g image index ∷ []) ∙ first-pass 6 _ _ (not-of-true e) ∙ first-halt 7 _ _ (not-of-false d)))
+    pub order-7 : witnessed g (front g image) index ≡ false → inOrder g (front g image) ≡ true → orderedNo g image index ≡ 7
+    order-7 w e =
+        let R = order-rules g t e in
+        let d : same index (indexOf g t) ≡ false = sym (witnessed-same g t index lent-index bytes R (E .header .taken-most)) ∙ w in
+        let other : index ≢ indexOf g t = λ z. clash (same index (indexOf g t)) (rw z (same-refl (indexOf g t))) d in
+        ordered-7 g image index E R other

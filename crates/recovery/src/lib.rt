@@ -6,8 +6,10 @@ ghost use Rattle.paper.specs.Image.{front, taken};
 ghost use Rattle.paper.specs.WellFormed.{inOrder};
 ghost use Rattle.paper.specs.Calls.{recover};
 ghost use Rattle.paper.specs.Outcomes.{lent, gives, outcome};
-ghost use Rattle.image.specs.Readable.{Readable};
-ghost use Rattle.recovery.specs.Refused.{loosely, Recoverable, InOrder};
+ghost use Rattle.paper.specs.Refusals.{refusal};
+ghost use Rattle.rules.specs.Lines.{orderedNo};
+ghost use Rattle.recovery.specs.Refused.{loosely};
+ghost use Rattle.rules.specs.Facts.{Readable};
 use paper::Answer;
 use paper::Geometry;
 
@@ -32,7 +34,7 @@ fn loosely(g: Geometry, image: &[u8]) -> bool
     image::rule_e(g, image)
 }
 
-pub fn in_order(g: Geometry, image: &[u8]) -> bool
+fn in_order(g: Geometry, image: &[u8]) -> bool
     requires { ⌜ Readable g (now image) ⌝ }
     requires { ⌜ taken g (front g (now image)) ≤ g .blocks ⌝ }
     ensures { λ t. ⌜ t ≡ inOrder g (front g (now (image .entry))) ⌝ }
@@ -44,12 +46,15 @@ pub fn in_order(g: Geometry, image: &[u8]) -> bool
 }
 
 // 1 to 6.
-pub fn recover_refusal(g: Geometry, image: &[u8], index: &[u8]) -> u8
-    ensures { λ k. ⌜ Recoverable g (now (image .entry)) (now (index .entry)) k ⌝ }
+fn recover_refusal(g: Geometry, image: &[u8], index: &[u8]) -> u8
+    ensures { λ k. ⌜ k ≡ refusal g (now (image .entry)) (now (index .entry)) recover ⌝ }
 {
-    let no = desk::early_indexed(g, image, index);
+    let no = desk::indexed_head(g, image, index);
     if no != 0 {
         return no;
+    }
+    if desk::tail_missing(g, image) {
+        return desk::TAIL_MISSING;
     }
     if !in_order(g, image) {
         return desk::TABLES;
@@ -58,10 +63,10 @@ pub fn recover_refusal(g: Geometry, image: &[u8], index: &[u8]) -> u8
 }
 
 // 1 to 7. The lent index is its own witness that no two blocks name the same pair; only where it bears none are the tables searched.
-pub fn indexed_refusal(g: Geometry, image: &[u8], index: &[u8]) -> u8
-    ensures { λ k. ⌜ InOrder g (now (image .entry)) (now (index .entry)) k ⌝ }
+pub fn ordered(g: Geometry, image: &[u8], index: &[u8]) -> u8
+    ensures { λ k. ⌜ k ≡ orderedNo g (now (image .entry)) (now (index .entry)) ⌝ }
 {
-    let no = desk::early_indexed(g, image, index);
+    let no = desk::entered(g, image, index);
     if no != 0 {
         return no;
     }

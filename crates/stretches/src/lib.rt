@@ -1,18 +1,18 @@
 // The stretches of a book that n bytes from an offset on touch: found in the index, checked, and copied.
 ghost use mathlib.Core.Path.{_≡_};
-ghost use Prim.Native.Nat.{_+_, _*_, _/_, _^_, _<_, min};
+ghost use Prim.Native.Nat.{_+_, _*_, _/_, _^_, _<_};
 ghost use lib.ListN.{length, replicate};
 ghost use Rattle.paper.specs.Geometry.{Allowed};
 ghost use Rattle.paper.specs.Image.{front, needOf};
 ghost use Rattle.paper.specs.Index.{startIn, blockIn};
 ghost use Rattle.paper.specs.Calls.{loaded, stored};
 ghost use Rattle.paper.specs.Refusals.{rightAt, touchedRight};
-ghost use Rattle.rules.specs.Facts.{Entered, Reads};
-ghost use Rattle.index.specs.Witnessed.{Indexed};
-ghost use Rattle.stretches.specs.Stretch.{blockFrom, firstTouched, endTouched, Touches, IsStretch};
-use paper::Block;
+ghost use Rattle.rules.specs.Facts.{Entered, Reads, Indexed};
+ghost use Rattle.stretches.specs.Stretch.{blockFrom, IsStretch};
+ghost use Rattle.rules.specs.Touched.{firstTouched, endTouched, Touches};
 use paper::Geometry;
 use paper::Offset;
+use paper::Position;
 use paper::Region;
 
 // So many bytes from `at` on in the image, which are those from `skip` on of the bytes asked.
@@ -22,54 +22,45 @@ pub struct Stretch {
     pub bytes: usize,
 }
 
-fn lesser(a: usize, b: usize) -> usize
-    ensures { λ r. ⌜ r ≡ min a b ⌝ }
-{
-    if a < b {
-        return a;
-    }
-    b
-}
-
 // ---- the touched positions. A book has fewer than 2^40 bytes, so that nothing here wraps
 
-fn first_touched(g: Geometry, offset: Offset) -> usize
+fn first_touched(g: Geometry, offset: Offset) -> Position
     requires { ⌜ Allowed g ⌝ }
-    ensures { λ p. ⌜ p ≡ firstTouched g (offset .0) ⌝ }
+    ensures { λ p. ⌜ p .0 ≡ firstTouched g (offset .0) ⌝ }
 {
-    offset.0 as usize / g.block_bytes()
+    let p = offset.0 as usize / g.block_bytes();
+    Position(p)
 }
 
-fn end_touched(g: Geometry, offset: Offset, n: usize) -> usize
+fn end_touched(g: Geometry, offset: Offset, n: usize) -> Position
     requires { ⌜ Allowed g × (offset .0 + n < 2 ^ 40) ⌝ }
-    ensures { λ p. ⌜ p ≡ endTouched g (offset .0) n ⌝ }
+    ensures { λ p. ⌜ p .0 ≡ endTouched g (offset .0) n ⌝ }
 {
-    let o = offset.0 as usize;
-    let w = g.block_bytes();
     if n == 0 {
-        return o / w;
+        return first_touched(g, offset);
     }
-    (o + n - 1) / w + 1
+    let end = (offset.0 as usize + n - 1) / g.block_bytes() + 1;
+    Position(end)
 }
 
 // Position p of region r, whose block numbers start at `start`.
-fn right_at(g: Geometry, image: &[u8], index: &[u8], r: Region, start: u16, p: usize) -> bool
+fn right_at(g: Geometry, image: &[u8], index: &[u8], r: Region, start: u16, p: Position) -> bool
     requires { ⌜ Entered g (now image) (now index) ⌝ }
-    requires { ⌜ (start ≡ startIn g (now index) (r .0)) × (p < 2 ^ 40) ⌝ }
-    ensures { λ t. ⌜ t ≡ rightAt g (front g (now (image .entry))) (now (index .entry)) (r .0) p ⌝ }
+    requires { ⌜ (start ≡ startIn g (now index) (r .0)) × (p .0 < 2 ^ 40) ⌝ }
+    ensures { λ t. ⌜ t ≡ rightAt g (front g (now (image .entry))) (now (index .entry)) (r .0) (p .0) ⌝ }
 {
-    let s = start as usize + p;
+    let s = start as usize + p.0;
     if g.blocks <= s {
         return false;
     }
-    let b = Block(index::slot_in(g, index, s));
+    let b = index::slot_in(g, index, s);
     if image::taken(g, image) <= b.0 {
         return false;
     }
     if image::owner(g, image, b).0 != r.0 {
         return false;
     }
-    image::place(g, image, b) as usize == p
+    image::place(g, image, b).0 == p.0
 }
 
 // Each touched position has its block in the index.
@@ -86,10 +77,10 @@ pub fn touched_right(
     ensures { λ t. ⌜ t ≡ touchedRight g (front g (now (image .entry))) (now (index .entry)) (r .0) (offset .0) n ⌝ }
 {
     let start = index::start_in(g, index, r);
-    let first = first_touched(g, offset);
-    let end = end_touched(g, offset, n);
+    let first = first_touched(g, offset).0;
+    let end = end_touched(g, offset, n).0;
     for p in first..end {
-        if !right_at(g, image, index, r, start, p) {
+        if !right_at(g, image, index, r, start, Position(p)) {
             return false;
         }
     }
@@ -99,16 +90,23 @@ pub fn touched_right(
 // ---- a stretch
 
 // Of n bytes from the offset on, those that fall into position p, which they touch.
-fn stretch_at(g: Geometry, index: &[u8], start: u16, p: usize, offset: Offset, n: usize) -> Stretch
-    requires { ⌜ Indexed g (now index) × (start + p < g .blocks) ⌝ }
-    requires { ⌜ Touches g (offset .0) n p × (offset .0 + n < 2 ^ 40) ⌝ }
-    ensures { λ s. ⌜ IsStretch g (blockFrom g (now (index .entry)) start p) (offset .0) n p s ⌝ }
+fn stretch_at(
+    g: Geometry,
+    index: &[u8],
+    start: u16,
+    p: Position,
+    offset: Offset,
+    n: usize,
+) -> Stretch
+    requires { ⌜ Indexed g (now index) × (start + p .0 < g .blocks) ⌝ }
+    requires { ⌜ Touches g (offset .0) n (p .0) × (offset .0 + n < 2 ^ 40) ⌝ }
+    ensures { λ s. ⌜ IsStretch g (blockFrom g (now (index .entry)) start (p .0)) (offset .0) n (p .0) s ⌝ }
 {
     let o = offset.0 as usize;
     let w = g.block_bytes();
-    let begin = p * w;
-    let end = lesser(o + n - begin, w);
-    let b = Block(index::slot_in(g, index, start as usize + p));
+    let begin = p.0 * w;
+    let end = numbers::lesser(o + n - begin, w);
+    let b = index::slot_in(g, index, start as usize + p.0);
     let block = g.data_at(b);
     if begin < o {
         let a = o - begin;
@@ -149,10 +147,10 @@ pub fn copy_out(
 {
     let n = buffer.len();
     let start = index::start_in(g, index, r);
-    let first = first_touched(g, offset);
-    let end = end_touched(g, offset, n);
+    let first = first_touched(g, offset).0;
+    let end = end_touched(g, offset, n).0;
     for p in first..end {
-        let s = stretch_at(g, index, start, p, offset, n);
+        let s = stretch_at(g, index, start, Position(p), offset, n);
         let at = s.at;
         let skip = s.skip;
         let bytes = s.bytes;
@@ -167,10 +165,10 @@ pub fn copy_in(g: Geometry, image: &mut [u8], index: &[u8], r: Region, offset: O
 {
     let n = bytes.len();
     let start = index::start_in(g, index, r);
-    let first = first_touched(g, offset);
-    let end = end_touched(g, offset, n);
+    let first = first_touched(g, offset).0;
+    let end = end_touched(g, offset, n).0;
     for p in first..end {
-        let s = stretch_at(g, index, start, p, offset, n);
+        let s = stretch_at(g, index, start, Position(p), offset, n);
         numbers::copy_part(bytes, s.skip, image, s.at, s.bytes);
     }
 }
@@ -181,10 +179,10 @@ pub fn zero_in(g: Geometry, image: &mut [u8], index: &[u8], r: Region, offset: O
     ensures { λ _. ⌜ now (image .exit) ≡ stored g (blockIn g (now (index .entry)) (r .0)) (needOf g (front g (now (image .entry))) (r .0)) (offset .0) (replicate n 0) (now (image .entry)) ⌝ }
 {
     let start = index::start_in(g, index, r);
-    let first = first_touched(g, offset);
-    let end = end_touched(g, offset, n);
+    let first = first_touched(g, offset).0;
+    let end = end_touched(g, offset, n).0;
     for p in first..end {
-        let s = stretch_at(g, index, start, p, offset, n);
+        let s = stretch_at(g, index, start, Position(p), offset, n);
         numbers::zero_part(image, s.at, s.at + s.bytes);
     }
 }

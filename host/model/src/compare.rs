@@ -38,7 +38,8 @@ pub fn judge(manager: Manager, asked: &Asked, ours: Lent<'_>, model: Lent<'_>) -
 }
 
 fn shown(answer: u64) -> String {
-    format!("refusal {} value {}", answer >> 32, answer & 0xffff_ffff)
+    let (refusal, value) = paper::apart(answer);
+    format!("refusal {refusal} value {value}")
 }
 
 fn difference(what: &str, ours: &[u8], model: &[u8], start: usize) -> Option<String> {

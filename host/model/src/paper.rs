@@ -86,7 +86,7 @@ pub struct Lent<'a> {
     pub buffer: &'a mut [u8],
 }
 
-/// A book manager: geometry by number, a call, what is lent; answers refusal × 2^32 + value.
+/// A book manager: geometry by number, a call, what is lent; answers refusal × 2^56 + value.
 pub type Manager = fn(u32, Call, Lent<'_>) -> u64;
 
 macro_rules! reasons {
@@ -150,12 +150,20 @@ pub struct Done {
 
 pub type Outcome = Result<Done, Why>;
 
+/// The bits of a host's answer that hold the value. Those above hold the refusal.
+pub const VALUE_BITS: u32 = 56;
+
 /// The one number that a host is answered.
 pub fn answered(outcome: &Outcome) -> u64 {
     match outcome {
         Ok(done) => done.value,
-        Err(why) => why.number() << 32,
+        Err(why) => why.number() << VALUE_BITS,
     }
+}
+
+/// Refusal and value of such a number.
+pub fn apart(answer: u64) -> (u64, u64) {
+    (answer >> VALUE_BITS, answer & ((1 << VALUE_BITS) - 1))
 }
 
 fn done(value: u64) -> Outcome {

@@ -1,6 +1,6 @@
 //! The model itself, held to the bench table of document 01, case by case.
 
-use jaaturbal_model::paper::{BENCH, Call, Lent, Outcome, Why, answered, call, number};
+use jaaturbal_model::paper::{BENCH, Call, Lent, Outcome, Why, answered, apart, call, number};
 
 struct Bench {
     image: Vec<u8>,
@@ -18,12 +18,11 @@ impl Bench {
 
     /// Refusal and value.
     fn make(&mut self, made: Call) -> (u64, u64) {
-        let answer = answered(&self.with(made, &mut []));
-        (answer >> 32, answer & 0xffff_ffff)
+        apart(answered(&self.with(made, &mut [])))
     }
 
     fn load(&mut self, offset: u64, bytes: usize) -> u64 {
-        answered(&self.with(Call::Load { region: 16, offset }, &mut vec![0; bytes])) >> 32
+        apart(answered(&self.with(Call::Load { region: 16, offset }, &mut vec![0; bytes]))).0
     }
 
     fn entry(&self, block: u64) -> &[u8] {

@@ -1,7 +1,7 @@
 //! The proved calls as they are: numbers and byte slices.
 //!
 //! A geometry is a number, 0 for BENCH and 1 for HOUSE; any other is refused. Each call answers one number, the refusal's
-//! number × 2^32 plus the value, which [`answer`] takes apart. After a refusal no lent byte has changed. The slices may hold
+//! number × 2^56 plus the value, which [`answer`] takes apart. After a refusal no lent byte has changed. The slices may hold
 //! anything and have any length.
 
 use crate::Refusal;
@@ -63,9 +63,12 @@ mod proved {
 // Every call below is sound for one reason: it lends slices, each with its own length; those that may be written are
 // borrowed by nobody else, so that they overlap with no other; and the calls keep none of them.
 
+/// The bits of an answer that hold the value. Those above hold the refusal's number.
+pub const VALUE_BITS: u32 = 56;
+
 /// The value of an answer, or its refusal.
 pub fn answer(answered: u64) -> Result<u64, Refusal> {
-    match (answered >> 32) as u32 {
+    match (answered >> VALUE_BITS) as u32 {
         0 => Ok(answered),
         number => Err(Refusal::numbered(number).expect("the calls refuse with the numbers 1 to 12")),
     }

@@ -1,5 +1,6 @@
-//! `Books` and the bench table of document 01 through it.
+//! `Books` and the bench table of document 01 through it; and how an answer is taken apart.
 
+use jaaturbal::calls::{VALUE_BITS, answer};
 use jaaturbal::{Books, Geometry, Offset, Pages, Refusal, Region};
 
 /// The books after the table's third case: 16 with 9 pages, 17 with 8.
@@ -61,6 +62,14 @@ fn regions_run_out() {
     assert_eq!(books.open(), Err(Refusal::NoRegionLeft));
     books.release(Region(18)).unwrap();
     assert_eq!(books.open(), Ok(Region(18)));
+}
+
+#[test]
+fn answers_are_taken_apart() {
+    let largest = (1 << VALUE_BITS) - 1;
+    assert_eq!([answer(0), answer(1 << 32), answer(largest)], [Ok(0), Ok(1 << 32), Ok(largest)]);
+    assert_eq!(answer(1 << VALUE_BITS), Err(Refusal::GeometryNotAllowed));
+    assert_eq!(answer(12 << VALUE_BITS), Err(Refusal::NotBlank));
 }
 
 #[test]

@@ -3,7 +3,7 @@ use Prim.Native.Nat.{_*_}
 use mathlib.Core.Path.{_∙_, ap}
 use Rattle.paper.specs.Image.{front}
 use Rattle.paper.specs.Calls.{grownFront}
-use Rattle.paper.proofs.Counting.{book-bytes-bound}
+use Rattle.paper.proofs.Arithmetic.{book-bytes-bound}
 use Rattle.books.proofs.Left.{writable}
 use Rattle.books.proofs.Growing.{pages-most, grows, new-pages, zeroed, front-grown}
 use native.Mathlib.Omega.{arith}
@@ -11,12 +11,23 @@ use borrow.Author.Needs.{needs}
 use Rattle.books.proofs.extend.Statement.{statement}
 use Rattle.books.proofs.extend.Tie as tie
 
+-- ---- the places, each from a later one: the start, the tables grown, the index anew
+abbrev start : tie.After-grow-tables → tie.Start
+start c = c .before .before .before .before .before
+
+abbrev grown : tie.After-index-anew → tie.After-grow-tables
+grown c = c .before .before .before .before .before
+
+abbrev anew : tie.After-zero-in-arg2 → tie.After-index-anew
+anew c = c .before .before .before .before .before
+
 grow-tables-requires : tie.Need-grow-tables-requires
 grow-tables-requires c κs = search needs
 
 index-anew-requires : tie.Need-index-anew-requires
 index-anew-requires c κs =
-    let s = c .before .before .before .before .before .before .before .before .before in
+    let at = c .before .before .before .before in
+    let s = start at in
     let a = s .args in
     let g = a .g in
     let i = a .image .now in
@@ -24,31 +35,33 @@ index-anew-requires c κs =
     let r = a .region .0 in
     let n = a .pages .0 in
     let W = s .pre .0 in
-    let w = c .before .before .before .before .grow-tables in
+    let w = at .grow-tables in
     writable g i x (w .last .1 .0) (grownFront g r n (front g i)) (W .ordered) (w .kept .1 .0) (w .ensures) (grows g i x r n W .formed)
 
 mul-n : tie.Need-mul-n
 mul-n c =
-    let s = c .before .before .before .before .before .before .before .before .before .before .before .before .before in
+    let s = start (grown (c .before .before .before)) in
     let a = s .args in
     let h = pages-most (a .g) (a .image .now) (a .index .now) (a .region .0) (a .pages .0) (s .pre .0) in
     record { fits = omega (arith, book-bytes-bound (a .g) (a .pages .0) (s .pre .0 .ordered .geometry) (omega arith)) }
 
 first-new-requires : tie.Need-first-new-requires
 first-new-requires c κs =
-    let s = c .before .before .before .before .before .before .before .before .before .before .before .before .before .before .before in
+    let s = start (grown (anew c)) in
     let a = s .args in
     let h = pages-most (a .g) (a .image .now) (a .index .now) (a .region .0) (a .pages .0) (s .pre .0) in
     omega (arith, book-bytes-bound (a .g) (a .old .0) (s .pre .0 .ordered .geometry) (omega (arith, s .pre .1 .0)))
 
 zero-in-requires : tie.Need-zero-in-requires
 zero-in-requires c κs =
-    let s = c .before .before .before .before .before .before .before .before .before .before .before .before .before .before .before .before in
+    let at = anew (c .before) in
+    let s = start (grown at) in
     let a = s .args in
-    let w = c .before .before .before .before .before .before .before .before .before .before .before .grow-tables in
-    let v = c .before .before .before .before .before .before .index-anew in
+    let w = grown at .grow-tables in
+    let v = at .index-anew in
     rw (c .first-new .ensures, s .pre .1 .0)
-    (new-pages (a .g) (a .image .now) (a .index .now) (a .region .0) (a .pages .0) (s .pre .0) (w .last .1 .0) (v .last .1 .1 .0) (w .kept .1 .0) (w .ensures) (v .ensures))
+    (new-pages (a .g) (a .image .now) (a .index .now) (a .region .0) (a .pages .0) (s .pre .0)
+    (w .last .1 .0) (v .last .1 .1 .0) (w .kept .1 .0) (w .ensures) (v .ensures))
 
 same-length : tie.Need-same-length
 same-length c = search needs
@@ -58,7 +71,8 @@ same-length-2 c = search needs
 
 returns : tie.Need-returns
 returns c =
-    let s = c .before .before .before .before .before .before .before .before .before .before .before .before .before .before .before .before .before .before .before in
+    let at = anew (c .before .before .before .before) in
+    let s = start (grown at) in
     let a = s .args in
     let g = a .g in
     let i = a .image .now in
@@ -66,8 +80,8 @@ returns c =
     let r = a .region .0 in
     let n = a .pages .0 in
     let W = s .pre .0 in
-    let w = c .before .before .before .before .before .before .before .before .before .before .before .before .before .before .grow-tables in
-    let v = c .before .before .before .before .before .before .before .before .before .index-anew in
+    let w = grown at .grow-tables in
+    let v = at .index-anew in
     let from = c .before .before .before .first-new .ensures ∙ ap (λ k. k * g .page) (s .pre .1 .0) in (
       (rw from at (c .before .before .zero-in .ensures))
           ∙ zeroed g i x r n W (w .last .1 .0) (v .last .1 .1 .0) (w .kept .1 .0) (w .ensures) (v .ensures) (s .pre .1 .1),

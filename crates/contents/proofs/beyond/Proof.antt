@@ -3,7 +3,7 @@ use Prim.Native.Nat.{_+_, _*_, _<_}
 use mathlib.Core.Path.{sym, _∙_}
 use borrow.Author.Tests.{lt-ltb}
 use Rattle.paper.specs.Image.{front, pagesOf}
-use Rattle.contents.proofs.Refusal.{left-over}
+use Rattle.laws.proofs.Tests.{left-over}
 use native.Mathlib.Omega.{arith}
 use borrow.Author.Needs.{needs}
 use Rattle.contents.proofs.beyond.Statement.{statement}

@@ -1,7 +1,7 @@
 -- `book_bytes` meets its contract.
 use Prim.Native.Nat.{ℕ, _*_}
 use mathlib.Core.Path.{ap}
-use Rattle.paper.proofs.Counting.{book-bytes-bound}
+use Rattle.paper.proofs.Arithmetic.{book-bytes-bound}
 use native.Mathlib.Omega.{arith}
 use borrow.Author.Needs.{needs}
 use Rattle.contents.proofs.book_bytes.Statement.{statement}

@@ -1,5 +1,5 @@
 -- `host::book_recover` meets its contract, by that of `recover`.
-use Rattle.host.proofs.Seen.{host-seen}
+use Rattle.host.proofs.HostSees.{host-sees}
 use borrow.Author.Needs.{needs}
 use Rattle.host.proofs.book_recover.Statement.{statement}
 use Rattle.host.proofs.book_recover.Tie as tie
@@ -17,7 +17,9 @@ same-length : tie.Need-same-length
 same-length c = search needs
 
 returns : tie.Need-returns
-returns c = host-seen _ _ _ _ _ _ _ _ (c .pack .ensures) (c .before .before .before .before .before .geometry-of .ensures) (c .before .before .before .recover .ensures)
+returns c =
+    let done = c .before .before .before in
+    host-sees _ _ (c .pack .ensures) (done .before .before .geometry-of .ensures) (done .recover .ensures)
 
 pub book-recover-spec : {M : Type 1} → statement M
 book-recover-spec =

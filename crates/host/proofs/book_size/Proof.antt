@@ -1,5 +1,5 @@
 -- `host::book_size` meets its contract, by that of `size`.
-use Rattle.host.proofs.Seen.{host-seen}
+use Rattle.host.proofs.HostSees.{host-sees}
 use borrow.Author.Needs.{needs}
 use Rattle.host.proofs.book_size.Statement.{statement}
 use Rattle.host.proofs.book_size.Tie as tie
@@ -14,7 +14,7 @@ pack-requires : tie.Need-pack-requires
 pack-requires c κs = search needs
 
 returns : tie.Need-returns
-returns c = host-seen _ _ _ _ _ _ _ _ (c .pack .ensures) (c .before .before .geometry-of .ensures) (c .before .size .ensures)
+returns c = host-sees _ _ (c .pack .ensures) (c .before .before .geometry-of .ensures) (c .before .size .ensures)
 
 pub book-size-spec : {M : Type 1} → statement M
 book-size-spec = tie.close (tie.spec geometry-of-requires size-requires pack-requires returns)

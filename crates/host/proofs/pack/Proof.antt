@@ -4,6 +4,7 @@ use mathlib.Core.Path.{_≡_}
 use Rattle.paper.specs.Outcomes.{numberOf, valueOf}
 use native.Mathlib.Omega.{arith}
 use borrow.Author.Needs.{needs}
+use Rattle.host.specs.Host.{inBits56}
 use Rattle.host.proofs.pack.Statement.{statement}
 use Rattle.host.proofs.pack.Tie as tie
 
@@ -23,14 +24,14 @@ returns : tie.Need-returns
 returns c =
     let a = c .before .before .before .args .a in
     let e : _≡_ {A = ℕ} 0 (numberOf a) = search needs in
-    let f : c .before .a .given .0 .0 ≡ valueOf a = search needs in
+    let f : c .before .a .given .0 .0 ≡ inBits56 (valueOf a) = search needs in
     omega arith
 
 returns-2 : tie.Need-returns-2
 returns-2 c =
     let a = c .before .before .before .args .a in
     let e : c .before .a2 .given .0 .0 ≡ numberOf a = search needs in
-    let f : _≡_ {A = ℕ} 0 (valueOf a) = search needs in
+    let f : _≡_ {A = ℕ} 0 (inBits56 (valueOf a)) = search needs in
     omega arith
 
 pub pack-spec : {M : Type 1} → statement M

@@ -1,7 +1,7 @@
--- No two blocks stand in one slot of a region before `first`, whose start is `from`.
+-- No two blocks stand in one slot of a region before `r`, whose start is `from`.
 use Prim.Native.Nat.{_+_, _-_, _≤_}
 use mathlib.Core.Bool.{true}
-use mathlib.Core.Path.{_≡_, refl, sym, _∙_}
+use mathlib.Core.Path.{_≡_, refl, sym, _∙_, ap}
 use lib.ListN.{length}
 use Rattle.laws.proofs.Folds.{sum-none, sum-mono}
 use Rattle.paper.specs.Image.{front, taken, needOf}
@@ -16,45 +16,61 @@ use Rattle.index.proofs.all_apart.Statement.{statement}
 use Rattle.index.proofs.all_apart.Tie as tie
 
 abbrev Inv-loop : tie.InvT-loop
-Inv-loop g image starts₀ seen₀ first₀ from₀ starts seen first from =
-    (first ≤ g .entries) × (length starts ≡ length starts₀) × (length seen ≡ length seen₀) × (from ≡ startOf g (front g image) first)
+Inv-loop g image starts₀ seen₀ r₀ from₀ starts seen r from =
+    (r ≤ g .entries) × (length starts ≡ length starts₀) × (length seen ≡ length seen₀) × (from ≡ startOf g (front g image) r)
     × (apart g (front g image) 0 from ≡ true)
 
 abbrev μ-loop : tie.MeasureT-loop
-μ-loop g image starts₀ seen₀ first₀ from₀ starts seen first from = g .entries - first
+μ-loop g image starts₀ seen₀ r₀ from₀ starts seen r from = g .entries - r
+
+-- ---- the places, each from a later one: the start, the loop's head, the starts read
+abbrev at-start : tie.At-loop Inv-loop μ-loop → tie.Start Inv-loop μ-loop
+at-start c = c .before .before .before .before
+
+abbrev at-loop : tie.After-lesser Inv-loop μ-loop → tie.At-loop Inv-loop μ-loop
+at-loop c = c .before .before .before .before
+
+abbrev at-read : tie.After-windows-apart-arg2 Inv-loop μ-loop → tie.After-read-starts Inv-loop μ-loop
+at-read c = c .before .before .before .before
 
 loop-holds : tie.Need-loop-holds Inv-loop μ-loop
 loop-holds c = (omega arith, refl, refl, sym (sum-none _), apart-none _ _ _)
 
-sub-least : tie.Need-sub-least Inv-loop μ-loop
-sub-least c = search needs
+sub-lesser : tie.Need-sub-lesser Inv-loop μ-loop
+sub-lesser c = search needs
 
-least-requires : tie.Need-least-requires Inv-loop μ-loop
-least-requires c κs = search needs
+lesser-requires : tie.Need-lesser-requires Inv-loop μ-loop
+lesser-requires c κs = search needs
 
-add-last : tie.Need-add-last Inv-loop μ-loop
-add-last c = omega arith
+add-end : tie.Need-add-end Inv-loop μ-loop
+add-end c = omega arith
+
+cast-t16 : tie.Need-cast-t16 Inv-loop μ-loop
+cast-t16 c = search needs
+
+cast-t16-2 : tie.Need-cast-t16-2 Inv-loop μ-loop
+cast-t16-2 c = search needs
 
 read-starts-requires : tie.Need-read-starts-requires Inv-loop μ-loop
 read-starts-requires c κs =
-    let x = c .before .before .before .before .before .loop in
-    (c .before .before .before .before .before .before .before .before .before .pre .0, ((omega arith, omega arith, omega arith), x .inv .3))
+    let x = at-loop (c .before) in
+    (at-start x .pre .0, ((omega arith, omega arith, omega arith), x .loop .inv .3))
 
 windows-apart-requires : tie.Need-windows-apart-requires Inv-loop μ-loop
 windows-apart-requires c κs =
-    let a = c .before .before .before .before .before .before .before .before .before .before .before .before .before .before .args in
-    let p = c .before .before .before .before .before .before .before .before .before .before .before .before .before .before .pre in
-    let x = c .before .before .before .before .before .before .before .before .before .before .loop in
+    let s = at-read c in
+    let n = s .before .before in
+    let x = at-loop n in
+    let a = at-start x .args in
     let t = front (a .g) (a .image .now) in
-    let r = c .before .before .before .before .read-starts in
-    let m = sum-mono (needOf (a .g) t) (x .first) (x .first + c .before .before .before .before .before .before .least .result) (omega arith) in (
+    let m = sum-mono (needOf (a .g) t) (x .loop .r) (x .loop .r + n .lesser .result) (omega arith) in (
       (
-        p .0,
+        at-start x .pre .0,
         record {
           order = omega arith;
           regions = omega arith;
-          room = omega (arith, r .kept .1 .1 .1 .1 .1 .0);
-          known = r .ensures .1;
+          room = omega (arith, s .read-starts .kept .1 .1 .1 .1 .1 .0);
+          known = s .read-starts .ensures .1;
           low = omega arith;
           high = omega arith;
         },
@@ -70,25 +86,32 @@ same-length-2 c = search needs
 
 returns : tie.Need-returns Inv-loop μ-loop
 returns c =
-    let a = c .before .before .before .before .before .before .before .before .before .before .before .before .before .before .before .before .before .before .args in
-    let x = c .before .before .before .before .before .before .before .before .before .before .before .before .before .before .loop in
+    let w = c .before .before .before in
+    let s = at-read (w .before) in
+    let n = s .before .before in
+    let x = at-loop n in
+    let a = at-start x .args in
     let t = front (a .g) (a .image .now) in
-    let n = need-inside (a .g) t (c .before .before .before .before .before .before .before .before .before .before .before .before .before .before .before .before .before .before .pre .0 .slotted) (x .first + c .before .before .before .before .before .before .before .before .before .before .least .result) (omega arith) in
-    sym (apart-part (a .g) t 0 (taken (a .g) t) (x .from) (c .before .before .before .before .before .before .before .before .read-starts .result) (omega arith) (omega (arith, c .before .before .before .before .before .before .before .before .read-starts .ensures .0)) (sym (c .before .before .before .windows-apart .ensures) ∙ not-true _ (c .if2 .taken)))
+    let m = need-inside (a .g) t (at-start x .pre .0 .slotted) (x .loop .r + n .lesser .result) (omega arith) in
+    let twice = sym (w .windows-apart .ensures) ∙ not-true _ (c .if2 .taken) in
+    sym (apart-part (a .g) t 0 (taken (a .g) t) (x .loop .from) (s .read-starts .result) (omega arith) (omega (arith, s .read-starts .ensures .0)) twice)
 
 loop-less : tie.Need-loop-less Inv-loop μ-loop
 loop-less c = omega arith
 
 loop-again : tie.Need-loop-again Inv-loop μ-loop
 loop-again c =
-    let a = c .before .before .before .before .before .before .before .before .before .before .before .before .before .before .before .before .before .before .args in
-    let x = c .before .before .before .before .before .before .before .before .before .before .before .before .before .before .loop in
-    let t = front (a .g) (a .image .now) in (
+    let w = c .before .before .before in
+    let s = at-read (w .before) in
+    let x = at-loop (s .before .before) in
+    let a = at-start x .args in
+    let t = front (a .g) (a .image .now) in
+    let once = sym (w .windows-apart .ensures) ∙ not-false _ (c .if2 .left) in (
       omega arith,
-      c .before .before .before .before .before .before .before .before .read-starts .kept .1 .1 .1 .1 .1 .0 ∙ x .inv .1,
-      c .before .before .before .windows-apart .kept .1 .1 .1 .1 .0 ∙ x .inv .2,
-      c .before .before .before .before .before .before .before .before .read-starts .ensures .0,
-      apart-join (a .g) t 0 (x .from) (c .before .before .before .before .before .before .before .before .read-starts .result) (x .inv .4) (sym (c .before .before .before .windows-apart .ensures) ∙ not-false _ (c .if2 .left)),
+      s .read-starts .kept .1 .1 .1 .1 .1 .0 ∙ x .loop .inv .1,
+      w .windows-apart .kept .1 .1 .1 .1 .0 ∙ x .loop .inv .2,
+      s .read-starts .ensures .0,
+      apart-join (a .g) t 0 (x .loop .from) (s .read-starts .result) (x .loop .inv .4) once,
     )
 
 same-length-3 : tie.Need-same-length-3 Inv-loop μ-loop
@@ -99,12 +122,12 @@ same-length-4 c = search needs
 
 returns-2 : tie.Need-returns-2 Inv-loop μ-loop
 returns-2 c =
-    let a = c .before .before .before .before .before .before .args in
-    let x = c .before .before .loop in
+    let x = c .before .before in
+    let a = at-start x .args in
     let t = front (a .g) (a .image .now) in
-    let e : x .first ≡ a .g .entries = omega arith in
-    let d : x .from ≡ taken (a .g) t = x .inv .3 ∙ (rw e (c .before .before .before .before .before .before .pre .0 .slotted .total)) in
-    sym (rw d at (x .inv .4))
+    let e : x .loop .r ≡ a .g .entries = omega arith in
+    let d : x .loop .from ≡ taken (a .g) t = x .loop .inv .3 ∙ ap (startOf (a .g) t) e ∙ at-start x .pre .0 .slotted .total in
+    sym (rw d at (x .loop .inv .4))
 
 pub all-apart-spec : {M : Type 1} → statement M
 all-apart-spec =
@@ -113,9 +136,11 @@ all-apart-spec =
     Inv-loop
     μ-loop
     loop-holds
-    sub-least
-    least-requires
-    add-last
+    sub-lesser
+    lesser-requires
+    add-end
+    cast-t16
+    cast-t16-2
     read-starts-requires
     windows-apart-requires
     same-length

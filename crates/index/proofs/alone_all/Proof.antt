@@ -6,6 +6,10 @@ use borrow.Author.Needs.{needs}
 use Rattle.index.proofs.alone_all.Statement.{statement}
 use Rattle.index.proofs.alone_all.Tie as tie
 
+-- where the call began, seen from the call's return
+abbrev start1 : tie.After-all-apart → tie.Start
+start1 c = c .before .before .before .before
+
 slice-aggregate-all-apart : tie.Need-slice-aggregate-all-apart
 slice-aggregate-all-apart c = search needs
 
@@ -16,7 +20,10 @@ all-apart-requires : tie.Need-all-apart-requires
 all-apart-requires c κs = search needs
 
 returns : tie.Need-returns
-returns c = let a = c .before .before .before .before .before .before .args in c .before .before .all-apart .ensures ∙ apart-alone (a .g) (front (a .g) (a .image .now)) (c .before .before .before .before .before .before .pre .slotted)
+returns c =
+    let all = c .before .before in
+    let a = start1 all .args in
+    all .all-apart .ensures ∙ apart-alone (a .g) (front (a .g) (a .image .now)) (start1 all .pre .slotted)
 
 pub alone-all-spec : {M : Type 1} → statement M
 alone-all-spec =

@@ -19,24 +19,35 @@ Inv-loop g image w starts seen₀ from₀ seen from =
 abbrev μ-loop : tie.MeasureT-loop
 μ-loop g image w starts seen₀ from₀ seen from = w .to - from
 
+-- ---- the places, each from a later one: the start, the loop's head, the window's end
+abbrev at-start : tie.At-loop Inv-loop μ-loop → tie.Start Inv-loop μ-loop
+at-start c = c .before .before .before .before
+
+abbrev at-loop : tie.After-lesser Inv-loop μ-loop → tie.At-loop Inv-loop μ-loop
+at-loop c = c .before .before .before .before
+
+abbrev at-lesser : tie.After-window-apart-arg Inv-loop μ-loop → tie.After-lesser Inv-loop μ-loop
+at-lesser c = c .before .before .before
+
 loop-holds : tie.Need-loop-holds Inv-loop μ-loop
 loop-holds c = (omega arith, omega arith, refl, apart-none _ _ _)
 
-sub-least : tie.Need-sub-least Inv-loop μ-loop
-sub-least c = search needs
+sub-lesser : tie.Need-sub-lesser Inv-loop μ-loop
+sub-lesser c = search needs
 
-least-requires : tie.Need-least-requires Inv-loop μ-loop
-least-requires c κs = search needs
+lesser-requires : tie.Need-lesser-requires Inv-loop μ-loop
+lesser-requires c κs = search needs
 
 add-to : tie.Need-add-to Inv-loop μ-loop
 add-to c = omega arith
 
 window-apart-requires : tie.Need-window-apart-requires Inv-loop μ-loop
 window-apart-requires c κs =
-    let F = c .before .before .before .before .before .before .before .before .before .pre .0 .1 in
-    let x = c .before .before .before .before .before .loop in (
+    let x = at-loop (at-lesser c) in
+    let p = at-start x .pre in
+    let F = p .0 .1 in (
       (
-        c .before .before .before .before .before .before .before .before .before .pre .0 .0,
+        p .0 .0,
         record {
           order = F .order;
           regions = F .regions;
@@ -54,28 +65,37 @@ same-length c = search needs
 
 returns : tie.Need-returns Inv-loop μ-loop
 returns c =
-    let a = c .before .before .before .before .before .before .before .before .before .before .before .before .before .args in
-    let x = c .before .before .before .before .before .before .before .before .before .loop in
-    sym (apart-part (a .g) (front (a .g) (a .image .now)) (a .w .from) (a .w .to) (x .from) _ (omega arith) (omega arith) (sym (c .before .before .before .window-apart .ensures) ∙ not-true _ (c .if2 .taken)))
+    let w = c .before .before .before in
+    let x = at-loop (at-lesser (w .before)) in
+    let a = at-start x .args in
+    let t = front (a .g) (a .image .now) in
+    let twice = sym (w .window-apart .ensures) ∙ not-true _ (c .if2 .taken) in
+    sym (apart-part (a .g) t (a .w .from) (a .w .to) (x .loop .from) _ (omega arith) (omega arith) twice)
 
 loop-less : tie.Need-loop-less Inv-loop μ-loop
 loop-less c = omega arith
 
 loop-again : tie.Need-loop-again Inv-loop μ-loop
 loop-again c =
-    let a = c .before .before .before .before .before .before .before .before .before .before .before .before .before .args in
-    let x = c .before .before .before .before .before .before .before .before .before .loop in (
+    let w = c .before .before .before in
+    let x = at-loop (at-lesser (w .before)) in
+    let a = at-start x .args in
+    let t = front (a .g) (a .image .now) in
+    let once = sym (w .window-apart .ensures) ∙ not-false _ (c .if2 .left) in (
       omega arith,
       omega arith,
-      c .before .before .before .window-apart .kept .1 .1 .1 .1 .0 ∙ x .inv .2,
-      apart-join (a .g) (front (a .g) (a .image .now)) (a .w .from) (x .from) _ (x .inv .3) (sym (c .before .before .before .window-apart .ensures) ∙ not-false _ (c .if2 .left)),
+      w .window-apart .kept .1 .1 .1 .1 .0 ∙ x .loop .inv .2,
+      apart-join (a .g) t (a .w .from) (x .loop .from) _ (x .loop .inv .3) once,
     )
 
 same-length-2 : tie.Need-same-length-2 Inv-loop μ-loop
 same-length-2 c = search needs
 
 returns-2 : tie.Need-returns-2 Inv-loop μ-loop
-returns-2 c = let x = c .before .before .loop in let e : x .from ≡ c .before .before .before .before .before .before .args .w .to = omega arith in sym (rw e at (x .inv .3))
+returns-2 c =
+    let x = c .before .before in
+    let e : x .loop .from ≡ at-start x .args .w .to = omega arith in
+    sym (rw e at (x .loop .inv .3))
 
 pub windows-apart-spec : {M : Type 1} → statement M
 windows-apart-spec =
@@ -84,8 +104,8 @@ windows-apart-spec =
     Inv-loop
     μ-loop
     loop-holds
-    sub-least
-    least-requires
+    sub-lesser
+    lesser-requires
     add-to
     window-apart-requires
     same-length

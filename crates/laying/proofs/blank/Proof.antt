@@ -1,6 +1,6 @@
 -- The bytes below `i` are zero.
-use Prim.Native.Nat.{_-_, _≤_}
-use mathlib.Core.Bool.{true}
+use Prim.Native.Nat.{ℕ, _-_, _≤_}
+use mathlib.Core.Bool.{Bool, true}
 use mathlib.Core.Path.{_≡_, sym}
 use borrow.Author.Tests.{eq-eqb, ne-eqb}
 use lib.Dec.{eqb}
@@ -20,6 +20,17 @@ Inv-loop image i₀ i = (i ≤ headerBytes) × (allBelow i (λ k. eqb (getD imag
 abbrev μ-loop : tie.MeasureT-loop
 μ-loop image i₀ i = headerBytes - i
 
+-- ---- the places, each from a later one: the start, the loop's head
+abbrev at-start : tie.At-loop Inv-loop μ-loop → tie.Start Inv-loop μ-loop
+at-start c = c .before
+
+abbrev at-loop : tie.After-shared-slice-known Inv-loop μ-loop → tie.At-loop Inv-loop μ-loop
+at-loop c = c .before .before
+
+-- byte k is zero
+abbrev zero-byte : tie.At-loop Inv-loop μ-loop → ℕ → Bool
+zero-byte c k = eqb (getD (at-start c .args .image .now) k 0) 0
+
 loop-holds : tie.Need-loop-holds Inv-loop μ-loop
 loop-holds c = (omega arith, all-none _)
 
@@ -29,9 +40,8 @@ shared-slice-read-if1 c = search needs
 returns : tie.Need-returns Inv-loop μ-loop
 unfolding blank
 returns c =
-    let a = c .before .before .before .before .args in
-    let x = c .before .before .before .loop in
-    sym (not-all headerBytes (λ k. eqb (getD (a .image .now) k 0) 0) (x .i) (omega arith) (ne-eqb _ _ (c .if1 .taken)))
+    let x = at-loop (c .before) in
+    sym (not-all headerBytes (zero-byte x) (x .loop .i) (omega arith) (ne-eqb _ _ (c .if1 .taken)))
 
 add-i : tie.Need-add-i Inv-loop μ-loop
 add-i c = search needs
@@ -41,9 +51,8 @@ loop-less c = search needs
 
 loop-again : tie.Need-loop-again Inv-loop μ-loop
 loop-again c =
-    let a = c .before .before .before .before .args in
-    let x = c .before .before .before .loop in
-    (omega arith, all-more (x .i) (λ k. eqb (getD (a .image .now) k 0) 0) (x .inv .1) (eq-eqb _ _ (c .if1 .left)))
+    let x = at-loop (c .before) in
+    (omega arith, all-more (x .loop .i) (zero-byte x) (x .loop .inv .1) (eq-eqb _ _ (c .if1 .left)))
 
 returns-2 : tie.Need-returns-2 Inv-loop μ-loop
 unfolding blank

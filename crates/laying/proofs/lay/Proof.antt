@@ -1,13 +1,30 @@
 -- `laying::lay` meets its contract.
-use mathlib.Core.Path.{sym, _∙_}
+use mathlib.Core.Path.{_≡_, sym, _∙_}
 use Rattle.paper.specs.Calls.{lay}
-use Rattle.paper.specs.Outcomes.{lent, buffer}
-use Rattle.rules.proofs.Checks.{lay-accepted}
-use Rattle.desk.proofs.Shared.{refused}
-use Rattle.laying.proofs.Laws.{lay-done}
+use Rattle.paper.specs.Refusals.{refusal}
+use Rattle.paper.specs.Outcomes.{State, lent}
+use Rattle.rules.proofs.Lines.{lay-accepted, refused, lay-done}
 use borrow.Author.Needs.{needs}
 use Rattle.laying.proofs.lay.Statement.{statement}
 use Rattle.laying.proofs.lay.Tie as tie
+
+-- ---- the places, each from a later one: the start, no refusal, the tables written
+abbrev at-start : tie.After-lay-refusal → tie.Start
+at-start c = c .before .before .before .before .before
+
+abbrev at-accepted : tie.After-write-tables → tie.Else1
+at-accepted c = c .before .before
+
+abbrev at-tables : tie.After-write-empty-index → tie.After-write-tables
+at-tables c = c .before .before .before .before
+
+-- image and index as they were lent
+abbrev state : tie.After-lay-refusal → State
+state c = let a = at-start c .args in lent (a .image .now) (a .index .now)
+
+-- no refusal applies
+accepted : (c : tie.Else1) → refusal (at-start (c .before) .args .g) (state (c .before) .image) (state (c .before) .index) lay ≡ 0
+accepted c = sym (c .before .lay-refusal .ensures) ∙ c .if1 .left
 
 lay-refusal-requires : tie.Need-lay-refusal-requires
 lay-refusal-requires c κs = search needs
@@ -19,24 +36,17 @@ same-length-2 : tie.Need-same-length-2
 same-length-2 c = search needs
 
 returns : tie.Need-returns
-unfolding buffer
 returns c =
-    let a = c .before .before .before .before .before .before .args in
-    refused (a .g) lay (lent (a .image .now) (a .index .now)) (c .before .lay-refusal .result) (sym (c .before .lay-refusal .ensures)) (c .if1 .taken)
+    let no = c .before .lay-refusal in
+    sym (refused (at-start (c .before) .args .g) lay (state (c .before)) (no .result) (sym (no .ensures)) (c .if1 .taken))
 
 write-tables-requires : tie.Need-write-tables-requires
-write-tables-requires c κs =
-    let a = c .before .before .before .before .before .before .before .args in
-    let e = sym (c .before .before .lay-refusal .ensures) ∙ c .before .if1 .left in
-    let f = lay-accepted (a .g) (a .image .now) (a .index .now) e in
-    record { allowed = f .0; long = f .2 }
+write-tables-requires c κs = let f = lay-accepted _ _ _ (accepted (c .before)) in record { allowed = f .0; long = f .2 }
 
-write-index-requires : tie.Need-write-index-requires
-write-index-requires c κs =
-    let a = c .before .before .before .before .before .before .before .before .before .before .before .args in
-    let e = sym (c .before .before .before .before .before .before .lay-refusal .ensures) ∙ c .before .before .before .before .before .if1 .left in
-    let f = lay-accepted (a .g) (a .image .now) (a .index .now) e in
-    (f .0, f .1)
+write-empty-index-requires : tie.Need-write-empty-index-requires
+write-empty-index-requires c κs =
+    let f = lay-accepted _ _ _ (accepted (at-accepted (c .before .before .before))) in
+    record { allowed = f .0; long = f .1 }
 
 same-length-3 : tie.Need-same-length-3
 same-length-3 c = search needs
@@ -46,11 +56,8 @@ same-length-4 c = search needs
 
 returns-2 : tie.Need-returns-2
 returns-2 c =
-    let a = c .before .before .before .before .before .before .before .before .before .before .before .before .before .before .args in
-    let e = sym (c .before .before .before .before .before .before .before .before .before .lay-refusal .ensures) ∙ c .before .before .before .before .before .before .before .before .if1 .left in
-    let tables = c .before .before .before .before .before .before .write-tables .ensures in
-    let index = c .before .before .write-index .ensures in
-    rw (tables, index) (lay-done (a .g) (a .image .now) (a .index .now) e)
+    let k = at-accepted (at-tables (c .before .before)) in
+    cc (lay-done (at-start (k .before) .args .g) (state (k .before)) (accepted k))
 
 pub lay-spec : {M : Type 1} → statement M
 lay-spec =
@@ -61,7 +68,7 @@ lay-spec =
     same-length-2
     returns
     write-tables-requires
-    write-index-requires
+    write-empty-index-requires
     same-length-3
     same-length-4
     returns-2)

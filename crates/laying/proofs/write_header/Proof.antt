@@ -1,8 +1,25 @@
 -- `laying::write_header` meets its contract.
-use Rattle.laying.proofs.Laws.{header-joined}
+use Rattle.paper.specs.Geometry.{version, fixedRegions}
+use Rattle.rules.proofs.Written.{header-put}
 use borrow.Author.Needs.{needs}
 use Rattle.laying.proofs.write_header.Statement.{statement}
 use Rattle.laying.proofs.write_header.Tie as tie
+
+-- ---- the places, each from a later one: the start, and after each number that is written
+abbrev at-start : tie.After-write-u32 → tie.Start
+at-start c = c .before .before .before
+
+abbrev at-marker : tie.After-write-u322 → tie.After-write-u32
+at-marker c = c .before .before .before .before
+
+abbrev at-version : tie.After-write-u16 → tie.After-write-u322
+at-version c = c .before .before .before .before
+
+abbrev at-taken : tie.After-write-u162 → tie.After-write-u16
+at-taken c = c .before .before .before .before
+
+abbrev at-counter : tie.After-write-u323 → tie.After-write-u162
+at-counter c = c .before .before .before .before
 
 write-u32-requires : tie.Need-write-u32-requires
 write-u32-requires c κs = search needs
@@ -27,8 +44,8 @@ same-length c = search needs
 
 returns : tie.Need-returns
 returns c =
-    let start = c .before .before .before .before .before .before .before .before .before .before .before .before .before .before .before .before .before .before .before .before .before in
-    cc (header-joined (start .args .g) (start .args .image .now) (start .pre))
+    let start = at-start (at-marker (at-version (at-taken (at-counter (c .before .before))))) in
+    cc (header-put version 0 fixedRegions (start .args .image .now))
 
 pub write-header-spec : {M : Type 1} → statement M
 write-header-spec =

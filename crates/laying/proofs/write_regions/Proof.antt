@@ -6,32 +6,40 @@ use Rattle.laws.specs.Folds.{joinBelow}
 use Rattle.laws.specs.Bytes.{splice}
 use Rattle.laws.proofs.Lists.{join-none, splice-nil, splice-row}
 use Rattle.paper.specs.Geometry.{sizeAt}
+use Rattle.paper.specs.Image.{sizeRow}
 use Rattle.paper.specs.Calls.{laidSize}
-use Rattle.rules.proofs.Laid.{length-laidSize}
+use Rattle.rules.proofs.Written.{length-size, size-put}
 use native.Mathlib.Omega.{arith}
 use borrow.Author.Needs.{needs}
 use Rattle.laying.proofs.write_regions.Statement.{statement}
 use Rattle.laying.proofs.write_regions.Tie as tie
 
 abbrev Inv-loop : tie.InvT-loop
-Inv-loop g image₀ r₀ r-end image r = (r ≤ r-end) × (length image ≡ length image₀) × (image ≡ splice (sizeAt g 0) (joinBelow r (laidSize g)) image₀)
+Inv-loop g image₀ r₀ r-end image r = (r ≤ r-end) × (length image ≡ length image₀) × (image ≡ splice (sizeAt g 0) (joinBelow r (sizeRow laidSize)) image₀)
 
 abbrev μ-loop : tie.MeasureT-loop
 μ-loop g image₀ r₀ r-end image r = r-end - r
+
+-- ---- the places, each from a later one: the start, the loop's head, an entry's place known
+abbrev at-start : tie.At-loop Inv-loop μ-loop → tie.Start Inv-loop μ-loop
+at-start c = c .before .before
+
+abbrev at-loop : tie.After-size-at Inv-loop μ-loop → tie.At-loop Inv-loop μ-loop
+at-loop c = c .before .before .before
 
 loop-holds : tie.Need-loop-holds Inv-loop μ-loop
 loop-holds c =
     let a = c .before .args in
     (omega arith, refl, rw join-none (sym (splice-nil (sizeAt (a .g) 0) (a .image .now))))
 
-cast-t10 : tie.Need-cast-t10 Inv-loop μ-loop
-cast-t10 c = search needs
+cast-t7 : tie.Need-cast-t7 Inv-loop μ-loop
+cast-t7 c = search needs
 
 size-at-requires : tie.Need-size-at-requires Inv-loop μ-loop
 size-at-requires c κs = search needs
 
-laid-pages-requires : tie.Need-laid-pages-requires Inv-loop μ-loop
-laid-pages-requires c κs = search needs
+laid-size-requires : tie.Need-laid-size-requires Inv-loop μ-loop
+laid-size-requires c κs = search needs
 
 write-u64-requires : tie.Need-write-u64-requires Inv-loop μ-loop
 write-u64-requires c κs = search needs
@@ -43,28 +51,25 @@ loop-less : tie.Need-loop-less Inv-loop μ-loop
 loop-less c = search needs
 
 loop-again : tie.Need-loop-again Inv-loop μ-loop
-unfolding laidSize
 loop-again c =
-    let start = c .before .before .before .before .before .before .before .before .before in
-    let a = start .args in
-    let w = c .before .before .write-u64 in
-    let x = c .before .before .before .before .before .before .before .loop in
-    let at : c .before .before .before .before .size-at .result ≡ sizeAt (a .g) 0 + 8 * x .r = omega arith in
-    let n = c .before .before .before .laid-pages .ensures in
-    let wide = length-laidSize (a .g) (start .pre .allowed) in (
-      omega arith,
-      w .kept .0 ∙ x .inv .1,
-      w .ensures ∙ rw (n, at, x .inv .2) (splice-row 8 (sizeAt (a .g) 0) (x .r) (laidSize (a .g)) (a .image .now) wide (omega arith)),
-    )
+    let w = c .before .before in
+    let x = at-loop (w .before .before) in
+    let a = at-start x .args in
+    let r = x .loop .r in
+    let from = sizeAt (a .g) 0 in
+    let at : sizeAt (a .g) r ≡ from + 8 * r = omega arith in
+    let size = size-put laidSize r (from + 8 * r) (x .loop .image) in
+    let more = splice-row 8 from r (sizeRow laidSize) (a .image .now) (length-size laidSize) (omega arith) in
+    (omega arith, w .write-u64 .kept .0 ∙ x .loop .inv .1, cc (at, size, more))
 
 same-length : tie.Need-same-length Inv-loop μ-loop
 same-length c = search needs
 
 returns : tie.Need-returns Inv-loop μ-loop
 returns c =
-    let x = c .before .loop in
-    let e : x .r ≡ c .before .before .before .args .g .entries = omega arith in
-    rw e at (x .inv .2)
+    let x = c .before in
+    let e : x .loop .r ≡ at-start x .args .g .entries = omega arith in
+    rw e at (x .loop .inv .2)
 
 pub write-regions-spec : {M : Type 1} → statement M
 write-regions-spec =
@@ -73,9 +78,9 @@ write-regions-spec =
     Inv-loop
     μ-loop
     loop-holds
-    cast-t10
+    cast-t7
     size-at-requires
-    laid-pages-requires
+    laid-size-requires
     write-u64-requires
     add-r
     loop-less

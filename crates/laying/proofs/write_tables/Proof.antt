@@ -1,9 +1,18 @@
 -- `laying::write_tables` meets its contract.
-use mathlib.Core.Path.{_∙_}
-use Rattle.laying.proofs.Laws.{tables-joined}
+use Rattle.rules.proofs.Laid.{laid-joined}
 use borrow.Author.Needs.{needs}
 use Rattle.laying.proofs.write_tables.Statement.{statement}
 use Rattle.laying.proofs.write_tables.Tie as tie
+
+-- ---- the places, each from a later one: the start, the header written, the blocks' entries written
+abbrev at-start : tie.After-write-header → tie.Start
+at-start c = c .before .before .before
+
+abbrev at-header : tie.After-write-blocks → tie.After-write-header
+at-header c = c .before .before .before .before
+
+abbrev at-blocks : tie.After-write-regions → tie.After-write-blocks
+at-blocks c = c .before .before .before .before
 
 write-header-requires : tie.Need-write-header-requires
 write-header-requires c κs = search needs
@@ -19,10 +28,8 @@ same-length c = search needs
 
 returns : tie.Need-returns
 returns c =
-    let start = c .before .before .before .before .before .before .before .before .before .before .before .before .before in
-    let blocks = c .before .before .before .before .before .before .write-blocks .ensures in
-    let header = c .before .before .before .before .before .before .before .before .before .before .write-header .ensures in
-    c .before .before .write-regions .ensures ∙ rw (blocks, header) (tables-joined (start .args .g) (start .args .image .now) (start .pre))
+    let a = at-start (at-header (at-blocks (c .before .before))) .args in
+    cc (laid-joined (a .g) (a .image .now))
 
 pub write-tables-spec : {M : Type 1} → statement M
 write-tables-spec =

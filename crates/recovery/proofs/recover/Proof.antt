@@ -1,12 +1,19 @@
--- `recovery::recover` meets its contract.
-use mathlib.Core.Path.{sym, _∙_}
+-- `recovery::recover` meets its contract: refused, or done.
+use mathlib.Core.Path.{_≡_, sym, _∙_}
 use Rattle.paper.specs.Calls.{recover}
-use Rattle.paper.specs.Outcomes.{lent, buffer}
-use Rattle.desk.proofs.Shared.{refused, entered-readable}
-use Rattle.recovery.proofs.Refused.{recover-done}
+use Rattle.paper.specs.Refusals.{refusal}
+use Rattle.paper.specs.Outcomes.{lent}
+use Rattle.rules.proofs.Lines.{entered-whole, recover-accepted, refused, recover-done}
 use borrow.Author.Needs.{needs}
 use Rattle.recovery.proofs.recover.Statement.{statement}
 use Rattle.recovery.proofs.recover.Tie as tie
+
+-- where the call began, seen from the place after the test
+abbrev start1 : tie.Else1 → tie.Start
+start1 c = c .before .before .before .before .before
+
+none : (c : tie.Else1) → let a = start1 c .args in refusal (a .g) (a .image .now) (a .index .now) recover ≡ 0
+none c = sym (c .before .recover-refusal .ensures) ∙ c .if1 .left
 
 recover-refusal-requires : tie.Need-recover-refusal-requires
 recover-refusal-requires c κs = search needs
@@ -15,26 +22,27 @@ same-length : tie.Need-same-length
 same-length c = search needs
 
 returns : tie.Need-returns
-unfolding buffer
 returns c =
     let a = c .before .before .before .before .before .args in
-    refused (a .g) recover (lent (a .image .now) (a .index .now)) (c .before .recover-refusal .result) (sym (c .before .recover-refusal .ensures .number)) (c .if1 .taken)
+    let no = c .before .recover-refusal in
+    sym (refused (a .g) recover (lent (a .image .now) (a .index .now)) (no .result) (sym (no .ensures)) (c .if1 .taken))
 
 write-index-requires : tie.Need-write-index-requires
 write-index-requires c κs =
-    let a = c .before .before .before .before .before .before .args in
-    let r = c .before .before .recover-refusal .ensures in
-    let z = c .before .if1 .left in
-    let E = r .entered z in
-    ((entered-readable (a .g) (a .image .now) (a .index .now) E, record { allowed = E .geometry; long = E .indexed }), (E .header .taken-most, r .rules z))
+    let a = start1 (c .before) .args in
+    let f = recover-accepted (a .g) (a .image .now) (a .index .now) (none (c .before)) in
+    let E = f .0 in
+    let readable = entered-whole (a .g) (a .image .now) (a .index .now) E .headed .readable in
+    ((readable, record { allowed = E .geometry; long = E .indexed }), (E .header .taken-most, f .1))
 
 same-length-2 : tie.Need-same-length-2
 same-length-2 c = search needs
 
 returns-2 : tie.Need-returns-2
 returns-2 c =
-    let a = c .before .before .before .before .before .before .before .before .before .args in
-    rw (c .before .before .write-index .ensures) (recover-done (a .g) (a .image .now) (a .index .now) (sym (c .before .before .before .before .before .recover-refusal .ensures .number) ∙ c .before .before .before .before .if1 .left))
+    let one = c .before .before .before .before in
+    let a = start1 one .args in
+    rw (c .before .before .write-index .ensures) (sym (recover-done (a .g) (lent (a .image .now) (a .index .now)) (none one)))
 
 pub recover-spec : {M : Type 1} → statement M
 recover-spec =

@@ -1,44 +1,76 @@
--- `recovery::recover_refusal` meets its contract.
-use mathlib.Core.Path.{sym, _∙_}
-use Rattle.desk.proofs.Shared.{entered-readable}
-use Rattle.recovery.proofs.Refused.{recover-stop, recover-6, recover-0}
-use borrow.Author.Tests.{not-true, not-false}
+-- `recovery::recover_refusal` meets its contract: a law for each return.
+use mathlib.Core.Path.{_≡_, sym, _∙_}
+use borrow.Author.Tests.{not-true, not-false, ltb-true, ltb-false}
+use lib.ListN.{length}
+use Rattle.paper.specs.Geometry.{indexBytes}
+use Rattle.rules.specs.Facts.{Headed, Entered}
+use Rattle.rules.proofs.Facts.{order-rules}
+use Rattle.rules.proofs.Lines.{indexed-head-shown, whole-entered, recover-stop, recover-5, recover-6, recover-0}
 use borrow.Author.Needs.{needs}
 use Rattle.recovery.proofs.recover_refusal.Statement.{statement}
 use Rattle.recovery.proofs.recover_refusal.Tie as tie
 
-early-indexed-requires : tie.Need-early-indexed-requires
-early-indexed-requires c κs = search needs
+-- where the call began, seen from the place after each test
+abbrev start1 : tie.Else1 → tie.Start
+start1 c = c .before .before .before .before
+
+abbrev start2 : tie.Else2 → tie.Start
+start2 c = start1 (c .before .before)
+
+-- 1 to 4 do not apply, and then 5
+headed : (c : tie.Else1) → Headed (start1 c .args .g) (start1 c .args .image .now) × (length (start1 c .args .index .now) ≡ indexBytes (start1 c .args .g))
+headed c = indexed-head-shown _ _ _ (sym (c .before .indexed-head .ensures) ∙ c .if1 .left)
+
+entered : (c : tie.Else2) → Entered (start2 c .args .g) (start2 c .args .image .now) (start2 c .args .index .now)
+entered c =
+    let a = start2 c .args in
+    let H = headed (c .before .before) in
+    let enough = ltb-false _ _ (sym (c .before .tail-missing .ensures) ∙ c .if2 .left) in
+    whole-entered (a .g) (a .image .now) (a .index .now) (record { headed = H .0; tail = enough }) (H .1)
+
+indexed-head-requires : tie.Need-indexed-head-requires
+indexed-head-requires c κs = search needs
 
 returns : tie.Need-returns
 returns c =
     let a = c .before .before .before .before .args in
-    recover-stop (a .g) (a .image .now) (a .index .now) (c .before .early-indexed .result) (c .before .early-indexed .ensures) (c .if1 .taken)
+    let no = c .before .indexed-head in
+    sym (recover-stop (a .g) (a .image .now) (a .index .now) (no .result) (no .ensures) (c .if1 .taken))
 
-in-order-requires : tie.Need-in-order-requires
-in-order-requires c κs =
-    let a = c .before .before .before .before .args in
-    let E = c .before .early-indexed .ensures .entered (c .if1 .left) in
-    (entered-readable (a .g) (a .image .now) (a .index .now) E, E .header .taken-most)
+tail-missing-requires : tie.Need-tail-missing-requires
+tail-missing-requires c κs = headed c .0 .readable
 
 returns-2 : tie.Need-returns-2
 returns-2 c =
-    let a = c .before .before .before .before .before .before .args in
-    let E = c .before .before .before .early-indexed .ensures .entered (c .before .before .if1 .left) in
-    recover-6 (a .g) (a .image .now) (a .index .now) E (sym (c .before .in-order .ensures) ∙ not-true _ (c .if2 .taken))
+    let one = c .before .before in
+    let a = start1 one .args in
+    let short = ltb-true _ _ (sym (c .before .tail-missing .ensures) ∙ c .if2 .taken) in
+    sym (recover-5 (a .g) (a .image .now) (a .index .now) (headed one .0) (headed one .1) short)
+
+in-order-requires : tie.Need-in-order-requires
+in-order-requires c κs = (headed (c .before .before) .0 .readable, entered c .header .taken-most)
 
 returns-3 : tie.Need-returns-3
 returns-3 c =
-    let a = c .before .before .before .before .before .before .args in
-    let E = c .before .before .before .early-indexed .ensures .entered (c .before .before .if1 .left) in
-    recover-0 (a .g) (a .image .now) (a .index .now) E (sym (c .before .in-order .ensures) ∙ not-false _ (c .if2 .left))
+    let two = c .before .before in
+    let a = start2 two .args in
+    sym (recover-6 (a .g) (a .image .now) (a .index .now) (entered two) (sym (c .before .in-order .ensures) ∙ not-true _ (c .if3 .taken)))
+
+returns-4 : tie.Need-returns-4
+returns-4 c =
+    let two = c .before .before in
+    let a = start2 two .args in
+    let R = order-rules (a .g) _ (sym (c .before .in-order .ensures) ∙ not-false _ (c .if3 .left)) in
+    sym (recover-0 (a .g) (a .image .now) (a .index .now) (entered two) R)
 
 pub recover-refusal-spec : {M : Type 1} → statement M
 recover-refusal-spec =
     tie.close
     (tie.spec
-    early-indexed-requires
+    indexed-head-requires
     returns
-    in-order-requires
+    tail-missing-requires
     returns-2
-    returns-3)
+    in-order-requires
+    returns-3
+    returns-4)

@@ -32,23 +32,14 @@ same-length-2 c = search needs
 returns : tie.Need-returns Inv-loop μ-loop
 returns c = search needs
 
-cast-print-line : tie.Need-cast-print-line Inv-loop μ-loop
-cast-print-line c = search needs
+sub-perform : tie.Need-sub-perform Inv-loop μ-loop
+sub-perform c = search needs
 
-print-line-requires : tie.Need-print-line-requires Inv-loop μ-loop
-print-line-requires c κs = search needs
+part-perform-start : tie.Need-part-perform-start Inv-loop μ-loop
+part-perform-start c = search needs
 
-same-length-3 : tie.Need-same-length-3 Inv-loop μ-loop
-same-length-3 c = search needs
-
-same-length-4 : tie.Need-same-length-4 Inv-loop μ-loop
-same-length-4 c = search needs
-
-returns-2 : tie.Need-returns-2 Inv-loop μ-loop
-returns-2 c = search needs
-
-slice-aggregate-perform : tie.Need-slice-aggregate-perform Inv-loop μ-loop
-slice-aggregate-perform c = search needs
+part-perform-end : tie.Need-part-perform-end Inv-loop μ-loop
+part-perform-end c = search needs
 
 perform-requires : tie.Need-perform-requires Inv-loop μ-loop
 perform-requires c κs = search needs
@@ -68,8 +59,8 @@ loop-less c = search needs
 loop-again : tie.Need-loop-again Inv-loop μ-loop
 loop-again c = search needs
 
-print-line-requires-2 : tie.Need-print-line-requires-2 Inv-loop μ-loop
-print-line-requires-2 c κs = search needs
+print-line-requires : tie.Need-print-line-requires Inv-loop μ-loop
+print-line-requires c κs = search needs
 
 loop-less-2 : tie.Need-loop-less-2 Inv-loop μ-loop
 loop-less-2 c = search needs
@@ -77,14 +68,14 @@ loop-less-2 c = search needs
 loop-again-2 : tie.Need-loop-again-2 Inv-loop μ-loop
 loop-again-2 c = search needs
 
-same-length-5 : tie.Need-same-length-5 Inv-loop μ-loop
-same-length-5 c = search needs
+same-length-3 : tie.Need-same-length-3 Inv-loop μ-loop
+same-length-3 c = search needs
 
-same-length-6 : tie.Need-same-length-6 Inv-loop μ-loop
-same-length-6 c = search needs
+same-length-4 : tie.Need-same-length-4 Inv-loop μ-loop
+same-length-4 c = search needs
 
-returns-3 : tie.Need-returns-3 Inv-loop μ-loop
-returns-3 c = search needs
+returns-2 : tie.Need-returns-2 Inv-loop μ-loop
+returns-2 c = search needs
 
 pub run-spec : {M : Type 1} → statement M
 run-spec =
@@ -99,21 +90,18 @@ run-spec =
     same-length
     same-length-2
     returns
-    cast-print-line
-    print-line-requires
-    same-length-3
-    same-length-4
-    returns-2
-    slice-aggregate-perform
+    sub-perform
+    part-perform-start
+    part-perform-end
     perform-requires
     enum-known-a
     enum-told
     print-refusal-requires
     loop-less
     loop-again
-    print-line-requires-2
+    print-line-requires
     loop-less-2
     loop-again-2
-    same-length-5
-    same-length-6
-    returns-3)
+    same-length-3
+    same-length-4
+    returns-2)

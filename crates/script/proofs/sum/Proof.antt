@@ -3,6 +3,7 @@ use Prim.Native.Nat.{ℕ, _+_, _*_, _-_, _≤_}
 use mathlib.Core.Path.{_≡_, sym, _∙_, ap}
 use lib.ListN.{length, getD}
 use Rattle.laws.specs.Folds.{sumBelow}
+use Rattle.paper.specs.Script.{sumOf}
 use Rattle.laws.proofs.Folds.{sum-none, sum-more}
 use native.Mathlib.Omega.{arith}
 use borrow.Author.Needs.{needs}
@@ -42,6 +43,7 @@ loop-again c =
     (omega arith, omega (arith, b), ap (λ (n : ℕ). n + f (x .i)) (x .inv .2) ∙ sym (sum-more (x .i) f))
 
 returns : tie.Need-returns Inv-loop μ-loop
+unfolding sumOf
 returns c =
     let x = c .before .loop in
     let e : x .i ≡ length (c .before .before .args .bytes .now) = omega arith in

@@ -1,37 +1,56 @@
 -- `zero_in` meets its contract: before position p the image is that of a store of zeros, up to there.
-use Prim.Native.Nat.{_+_, _-_, _≤_}
+use Prim.Native.Nat.{_+_, _-_, _^_, _≤_, _<_}
 use mathlib.Core.Path.{_≡_, refl, _∙_, ap}
 use lib.ListN.{length, length-replicate}
 use Rattle.paper.specs.Index.{blockIn}
 use Rattle.paper.specs.Calls.{stretch}
-use Rattle.stretches.specs.Stretch.{blockFrom, endTouched}
-use Rattle.stretches.proofs.Right.{Step, reads-index, reads-bytes, reads-need, reads-step}
-use Rattle.stretches.proofs.Walks.{stretch-fits, writtenTo, written-none, written-more, written-all}
+use Rattle.stretches.specs.Stretch.{blockFrom, Step}
+use Rattle.stretches.proofs.Walks.{stretch-fits, writtenTo, written-none, written-more, written-all, reads-step}
 use Rattle.laws.proofs.Lists.{zeros, zeros-part}
 use native.Mathlib.Omega.{arith}
 use borrow.Author.Needs.{needs}
 use Rattle.stretches.proofs.zero_in.Statement.{statement}
 use Rattle.stretches.proofs.zero_in.Tie as tie
+use Rattle.rules.specs.Touched.{endTouched}
+use Rattle.rules.specs.Facts.{Indexed}
+use Rattle.paper.specs.Geometry.{Allowed}
+use Rattle.rules.proofs.Right.{reads-index, reads-bytes, reads-need}
 
 abbrev Inv-loop : tie.InvT-loop
-Inv-loop g image₀ index offset n start first end p₀ image p = (first ≤ p) × (p ≤ end) × (length image ≡ length image₀) × (image ≡ writtenTo g (blockFrom g index start) (offset .0) (zeros n) image₀ p)
+Inv-loop g image₀ index offset n start first end p₀ image p =
+    (first ≤ p) × (p ≤ end) × (length image ≡ length image₀) × (image ≡ writtenTo g (blockFrom g index start) (offset .0) (zeros n) image₀ p)
 
 abbrev μ-loop : tie.MeasureT-loop
 μ-loop g image₀ index offset n start first end p₀ image p = end - p
 
+-- the places, each from a later one: the start, the region's first slot known
+abbrev start : tie.After-start-in Inv-loop μ-loop → tie.Start Inv-loop μ-loop
+start c = c .before .before .before
+
+abbrev slot-known : tie.At-loop Inv-loop μ-loop → tie.After-start-in Inv-loop μ-loop
+slot-known c = c .before .before .before
+
+-- what the index's reader and the count of the positions ask
+indexed : (s : tie.Start Inv-loop μ-loop) → let a = s .args in Indexed (a .g) (a .index .now) × (a .r .0 ≤ a .g .entries)
+indexed s = let a = s .args in reads-index (a .g) (a .image .now) (a .index .now) (a .r .0) (a .offset .0) (a .n) (s .pre)
+
+bounded : (s : tie.Start Inv-loop μ-loop) → let a = s .args in Allowed (a .g) × (a .offset .0 + a .n < 2 ^ 40)
+bounded s = let a = s .args in reads-bytes (a .g) (a .image .now) (a .index .now) (a .r .0) (a .offset .0) (a .n) (s .pre)
+
 start-in-requires : tie.Need-start-in-requires Inv-loop μ-loop
-start-in-requires c κs = let a = c .before .before .args in reads-index (a .g) (a .image .now) (a .index .now) (a .r .0) (a .offset .0) (a .n) (c .before .before .pre)
+start-in-requires c κs = indexed (c .before .before)
 
 first-touched-requires : tie.Need-first-touched-requires Inv-loop μ-loop
 first-touched-requires c κs = search needs
 
 end-touched-requires : tie.Need-end-touched-requires Inv-loop μ-loop
-end-touched-requires c κs = let a = c .before .before .before .before .args in reads-bytes (a .g) (a .image .now) (a .index .now) (a .r .0) (a .offset .0) (a .n) (c .before .before .before .before .pre)
+end-touched-requires c κs = bounded (start (c .before))
 
 loop-holds : tie.Need-loop-holds Inv-loop μ-loop
 loop-holds c =
-    let a = c .before .before .before .before .before .args in
-    let at = blockFrom (a .g) (a .index .now) (c .before .before .start-in .result) in (
+    let k = c .before .before in
+    let a = start k .args in
+    let at = blockFrom (a .g) (a .index .now) (k .start-in .result) in (
       omega arith,
       omega arith,
       refl,
@@ -40,30 +59,36 @@ loop-holds c =
 
 -- the position of a turn
 step : (c : tie.In-loop Inv-loop μ-loop)
-    → Step (c .before .before .before .before .before .before .before .args .g) (c .before .before .before .before .before .before .before .args .index .now) (c .before .before .before .before .start-in .result) (c .before .before .before .before .before .before .before .args .offset .0) (c .before .before .before .before .before .before .before .args .n) (c .before .loop .p) (length (c .before .before .before .before .before .before .before .args .image .now))
+    → let k = slot-known (c .before) in
+    let a = start k .args in
+    Step (a .g) (a .index .now) (k .start-in .result) (a .offset .0) (a .n) (c .before .loop .p) (length (a .image .now))
 step c =
-    let a = c .before .before .before .before .before .before .before .args in
-    reads-step (a .g) (a .image .now) (a .index .now) (a .r .0) (a .offset .0) (a .n) (c .before .before .before .before .before .before .before .pre) (c .before .loop .p) (omega arith) (omega arith) (c .before .before .before .before .start-in .result) (c .before .before .before .before .start-in .ensures)
+    let k = slot-known (c .before) in
+    let s = start k in
+    let a = s .args in
+    reads-step (a .g) (a .image .now) (a .index .now) (a .r .0) (a .offset .0) (a .n) (s .pre)
+    (c .before .loop .p) (omega arith) (omega arith) (k .start-in .result) (k .start-in .ensures)
 
 -- its stretch
 fits : (c : tie.After-stretch-at Inv-loop μ-loop)
-    → (c .stretch-at .result .at + c .stretch-at .result .bytes ≤ length (c .before .before .loop .image)) × (c .stretch-at .result .skip + c .stretch-at .result .bytes ≤ c .before .before .before .before .before .before .before .before .args .n)
+    → (c .stretch-at .result .at + c .stretch-at .result .bytes ≤ length (c .before .before .loop .image))
+    × (c .stretch-at .result .skip + c .stretch-at .result .bytes ≤ start (slot-known (c .before .before)) .args .n)
 fits c =
-    let a = c .before .before .before .before .before .before .before .before .args in
+    let a = start (slot-known (c .before .before)) .args in
     let x = c .before .before .loop in
     let s = step (c .before) in
     stretch-fits (a .g) _ (a .offset .0) (a .n) (x .p) (length (x .image)) _ (c .stretch-at .ensures) (s .touches) (rw (x .inv .2) (s .fits))
 
 stretch-at-requires : tie.Need-stretch-at-requires Inv-loop μ-loop
 stretch-at-requires c κs =
-    let a = c .before .before .before .before .before .before .before .args in
-    let R = c .before .before .before .before .before .before .before .pre in
-    ((reads-index (a .g) (a .image .now) (a .index .now) (a .r .0) (a .offset .0) (a .n) R .0, step c .slot), (step c .touches, reads-bytes (a .g) (a .image .now) (a .index .now) (a .r .0) (a .offset .0) (a .n) R .1))
+    let s = start (slot-known (c .before)) in
+    ((indexed s .0, step c .slot), (step c .touches, bounded s .1))
 
 add-zero-part : tie.Need-add-zero-part Inv-loop μ-loop
 add-zero-part c =
-    let s = c .before .before .before .before .before .before .before .before .before .before in
-    let f = fits (c .before .before) in
+    let cut = c .before .before in
+    let s = start (slot-known (cut .before .before)) in
+    let f = fits cut in
     record { fits = omega (arith, f .0, s .good) }
 
 zero-part-requires : tie.Need-zero-part-requires Inv-loop μ-loop
@@ -79,14 +104,18 @@ loop-less c = search needs
 
 loop-again : tie.Need-loop-again Inv-loop μ-loop
 loop-again c =
-    let a = c .before .before .before .before .before .before .before .before .before .before .before .before .before .args in
-    let x = c .before .before .before .before .before .before .before .loop in
-    let S = c .before .before .before .before .before .stretch-at in
-    let at = blockFrom (a .g) (a .index .now) (c .before .before .before .before .before .before .before .before .before .before .start-in .result) in
+    let zeroed = c .before .before in
+    let cut = zeroed .before .before .before in
+    let head = cut .before .before in
+    let k = slot-known head in
+    let a = start k .args in
+    let x = head .loop in
+    let S = cut .stretch-at in
+    let at = blockFrom (a .g) (a .index .now) (k .start-in .result) in
     let o = a .offset .0 in
     let ys = zeros (a .n) in
-    let P = c .before .before .zero-part in
-    let f = fits (c .before .before .before .before .before) in
+    let P = zeroed .zero-part in
+    let f = fits cut in
     let e : S .result .at + S .result .bytes - S .result .at ≡ S .result .bytes = omega arith in
     let z = zeros-part (S .result .skip) (S .result .bytes) (a .n) (f .1) in
     let one : P .last .0 ≡ stretch (a .g) at o ys (x .p) (x .image)
@@ -102,13 +131,15 @@ same-length c = search needs
 
 returns : tie.Need-returns Inv-loop μ-loop
 returns c =
-    let s = c .before .before .before .before .before .before .before in
+    let k = c .before .before .before .before in
+    let s = k .before .before .before in
     let a = s .args in
     let x = c .before .loop in
     let e : x .p ≡ endTouched (a .g) (a .offset .0) (length (zeros (a .n))) = rw length-replicate (omega arith) in
     let h = reads-need (a .g) (a .image .now) (a .index .now) (a .r .0) (a .offset .0) (a .n) (s .pre) in
-    (rw (c .before .before .before .before .start-in .ensures, e) at (x .inv .3))
-    ∙ written-all (a .g) (blockIn (a .g) (a .index .now) (a .r .0)) (a .offset .0) (zeros (a .n)) (a .image .now) (s .pre .entered .geometry) _ (rw length-replicate h)
+    (rw (k .start-in .ensures, e) at (x .inv .3))
+    ∙ written-all (a .g) (blockIn (a .g) (a .index .now) (a .r .0)) (a .offset .0) (zeros (a .n)) (a .image .now) (s .pre .entered .geometry) _
+    (rw length-replicate h)
 
 pub zero-in-spec : {M : Type 1} → statement M
 zero-in-spec =

@@ -1,2 +1,0 @@
--- What lay writes, joined to the paper's.
-pub mod Laws

@@ -1,0 +1,722 @@
+-- The lines of "Order of checks": what each check asks, what a line's beginning has shown, which number each call answers and when, and what it
+-- leaves when it is done. Only this file opens `checks` and `accepted`.
+use Prim.Native.Nat.{ℕ, _+_, _-_, _*_, _≤_, _<_}
+use mathlib.Core.Bool.{true, false, not, _||_, cond}
+use mathlib.Core.Logic.{_≢_, _↔_}
+use mathlib.Core.Path.{_≡_, refl, sym, _∙_}
+use mathlib.Core.List.{List, [], _∷_, _++_}
+use native.Mathlib.Omega.{arith}
+use borrow.Author.Tests.{eqb-true, eqb-false, eq-eqb, ne-eqb, ltb-false, le-ltb, leb-true, leb-false, le-leb, lt-leb, not-true, not-false}
+use lib.Dec.{eqb, leb}
+use lib.ListN.{length}
+use Rattle.laws.proofs.Tests.{clash, and-parts, and-true, or-false, or-parts-false, not-of-true}
+use Rattle.laws.proofs.Lists.{same-refl, same-eq}
+use Rattle.laws.specs.Bytes.{same}
+use Rattle.paper.specs.declared.Geometry.{Geometry}
+use Rattle.paper.specs.declared.Answer.the-variants.{Done, Refused}
+use Rattle.paper.specs.Geometry.{fixedRegions, reclaimed, blockBytes, allowed, Allowed, noRegion, capacity, mostBookPages, indexBytes}
+use Rattle.paper.specs.Image.{front, rest, stamp, taken, counter, pagesOf, needOf}
+use Rattle.paper.specs.WellFormed.{inOrder}
+use Rattle.paper.specs.Index.{indexOf, emptyIndex, blockIn}
+use Rattle.paper.specs.Calls.{Call, lay, «open», grow, load, store, look, size, release, recover, laid, nextRegion, opened, loaded, stored, newBlocks, grown, lookBytes, released}
+use Rattle.paper.specs.Refusals.{Check, first, headerRight, touchedRight, usable, blank, no1, no2, no3, no4, no5, no6, no6of, no7, no7of, no8, no8release, no9, no10, no11, no12, to4, to5, to7, ofBook, checks, refusal, wellFormed}
+use Rattle.paper.specs.Outcomes.{numberOf, valueOf, State, lent, gives, tabled, accepted, buffer, outcome}
+use Rattle.paper.proofs.Arithmetic.{allowed-facts, facts-allowed}
+use Rattle.rules.specs.Facts.{Rules, Header, Formed, Readable, Headed, Whole, Entered, Ordered, Reads}
+use Rattle.rules.specs.Lines.{headNo, wholeNo, bookNo, indexedHeadNo, enteredNo, orderedNo, readNo}
+use Rattle.rules.proofs.Cells.{stamp-version, length-front}
+use Rattle.rules.proofs.Facts.{order-rules, rules-order}
+use Rattle.rules.proofs.Index.{length-index}
+use Rattle.rules.proofs.First.{Passes, first-nil, pass, halt, shown, distinct, first-exactly, first-stop}
+use Rattle.rules.proofs.Usable.{usable-facts, callable-facts}
+
+-- ---- the header
+module _ (g : Geometry) (t : List ℕ) where
+  header-facts : headerRight g t ≡ true → Header g t
+  unfolding headerRight
+  header-facts e =
+      let p3 = and-parts _ (leb (counter g t) (noRegion g)) e in
+      let p2 = and-parts _ (leb fixedRegions (counter g t)) (p3 .0) in
+      let p1 = and-parts (not (eqb (stamp g t) 0)) (leb (taken g t) (g .blocks)) (p2 .0) in
+      let right = stamp-version g t (eqb-false _ _ (not-true _ (p1 .0))) in
+      record { stamp = right; taken-most = leb-true _ _ (p1 .1); counter-least = leb-true _ _ (p2 .1); counter-most = leb-true _ _ (p3 .1) }
+
+  facts-header : Header g t → headerRight g t ≡ true
+  unfolding headerRight
+  facts-header h =
+      let right : not (eqb (stamp g t) 0) ≡ true = rw (h .stamp) in
+      and-true
+      (and-true (and-true right (le-leb _ _ (h .taken-most))) (le-leb _ _ (h .counter-least)))
+      (le-leb _ _ (h .counter-most))
+
+-- ---- what each check asks
+module _ (g : Geometry) (image index : List ℕ) where
+  abbrev t : List ℕ
+  t = front g image
+
+  ask1 : Passes (no1 g image index) (Allowed g)
+  ask1 = record { fine = λ A. not-of-true (facts-allowed g A); shows = λ e. allowed-facts g (not-false _ e) }
+
+  ask2 : Passes (no2 g image index) (length index ≡ indexBytes g)
+  ask2 = record { fine = λ e. not-of-true (eq-eqb _ _ e); shows = λ e. eqb-true _ _ (not-false _ e) }
+
+  ask3 : Passes (no3 g image index) (blockBytes g ≤ length image)
+  ask3 = record { fine = λ l. le-ltb _ _ l; shows = λ e. ltb-false _ _ e }
+
+  ask4 : Passes (no4 g image index) (Header g (front g image))
+  ask4 = record { fine = λ H. not-of-true (facts-header g t H); shows = λ e. header-facts g t (not-false _ e) }
+
+  ask5 : Passes (no5 g image index) (taken g (front g image) ≤ capacity g (length image))
+  ask5 = record { fine = λ l. le-ltb _ _ l; shows = λ e. ltb-false _ _ e }
+
+  ask6 : Passes (no6 g image index) (Rules g (front g image))
+  ask6 = record { fine = λ R. not-of-true (rules-order g t R); shows = λ e. order-rules g t (not-false _ e) }
+
+  ask7 : Passes (no7 g image index) (index ≡ indexOf g (front g image))
+  ask7 = record {
+    fine = λ e. not-of-true {b = same index (indexOf g t)} (rw e (same-refl (indexOf g t)));
+    shows = λ e. same-eq _ _ (not-false _ e);
+  }
+
+  module _ (r : ℕ) where
+    ask8 : Passes (no8 g image index r) (usable g (front g image) r ≡ true)
+    ask8 = record { fine = λ u. not-of-true u; shows = λ e. not-false _ e }
+
+    ask8release : Passes (no8release g image index r) ((usable g (front g image) r ≡ true) × (r ≢ 0))
+    ask8release = record {
+      fine = λ p. or-false {b = not (usable g t r)} (ne-eqb r 0 (p .1)) (not-of-true (p .0));
+      shows = λ e. let p = or-parts-false (eqb r 0) (not (usable g t r)) e in (not-false _ (p .1), eqb-false r 0 (p .0));
+    }
+
+    ask6of : Passes (no6of g image index r) (pagesOf g (front g image) r ≤ mostBookPages g)
+    ask6of = record { fine = λ l. le-ltb _ _ l; shows = λ e. ltb-false _ _ e }
+
+    ask9 : (o n : ℕ) → Passes (no9 g image index r o n) (o + n ≤ pagesOf g (front g image) r * g .page)
+    ask9 o n = record { fine = λ l. le-ltb _ _ l; shows = λ e. ltb-false _ _ e }
+
+    ask7of : (o n : ℕ) → Passes (no7of g image index r o n) (touchedRight g (front g image) index r o n ≡ true)
+    ask7of o n = record { fine = λ u. not-of-true u; shows = λ e. not-false _ e }
+
+    ask10 : (n : ℕ) → Passes (no10 g image index r n)
+        (newBlocks g r n (front g image) ≤ needOf g (front g image) reclaimed + (capacity g (length image) - taken g (front g image)))
+    ask10 n = record { fine = λ l. le-ltb _ _ l; shows = λ e. ltb-false _ _ e }
+
+  ask11 : Passes (no11 g image index) (nextRegion g (front g image) < noRegion g)
+  ask11 = record { fine = λ l. lt-leb _ _ l; shows = λ e. leb-false _ _ e }
+
+  ask12 : Passes (no12 g image index) (blank g image ≡ true)
+  ask12 = record { fine = λ b. not-of-true b; shows = λ e. not-false _ e }
+
+-- ---- checks 3 to 6: an image is well-formed exactly where it is long enough for the reserve and its front is in order
+module _ (g : Geometry) (image : List ℕ) (A : Allowed g) where
+  formed : Headed g image → taken g (front g image) ≤ capacity g (length image) → Rules g (front g image)
+      → Formed g (capacity g (length image)) (front g image)
+  formed H tail R = record {
+    full = length-front g image (omega (arith, H .readable .long, H .readable .allowed .reserve));
+    header = H .header;
+    tail = tail;
+    rules = R;
+  }
+
+  pub formed-image : wellFormed g image ≡ true → (blockBytes g ≤ length image) × Formed g (capacity g (length image)) (front g image)
+  unfolding wellFormed
+  formed-image e =
+      let f3 = shown (ask3 g image []) _ (omega arith) (eqb-true _ _ e) in
+      let f4 = shown (ask4 g image []) _ (omega arith) (f3 .1) in
+      let f5 = shown (ask5 g image []) _ (omega arith) (f4 .1) in
+      let f6 = shown (ask6 g image []) _ (omega arith) (f5 .1) in
+      (f3 .0, formed (record { readable = record { allowed = A; long = f3 .0 }; header = f4 .0 }) (f5 .0) (f6 .0))
+
+  pub image-formed : blockBytes g ≤ length image → Formed g (capacity g (length image)) (front g image) → wellFormed g image ≡ true
+  unfolding wellFormed
+  image-formed long F =
+      eq-eqb _ _
+      (pass (ask3 g image []) _ long ∙ pass (ask4 g image []) _ (F .header) ∙ pass (ask5 g image []) _ (F .tail)
+      ∙ pass (ask6 g image []) _ (F .rules) ∙ first-nil)
+
+-- ---- the beginnings without an index
+module _ (g : Geometry) (image : List ℕ) where
+  -- 1, 3, 4
+  pub head-shown : headNo g image ≡ 0 → Headed g image
+  unfolding headNo
+  head-shown e =
+      let f1 = shown (ask1 g image []) _ (omega arith) e in
+      let f3 = shown (ask3 g image []) _ (omega arith) (f1 .1) in
+      let f4 = shown (ask4 g image []) _ (omega arith) (f3 .1) in
+      record { readable = record { allowed = f1 .0; long = f3 .0 }; header = f4 .0 }
+
+  pub head-1 : allowed g ≡ false → headNo g image ≡ 1
+  unfolding headNo
+  head-1 a = halt (ask1 g image []) _ (λ A. clash (allowed g) (facts-allowed g A) a)
+
+  pub head-3 : Allowed g → length image < blockBytes g → headNo g image ≡ 3
+  unfolding headNo
+  head-3 A l = pass (ask1 g image []) _ A ∙ halt (ask3 g image []) _ (λ h. omega arith)
+
+  module _ (R : Readable g image) where
+    pub head-4 : headerRight g (front g image) ≡ false → headNo g image ≡ 4
+    unfolding headNo
+    head-4 h =
+        pass (ask1 g image []) _ (R .allowed) ∙ pass (ask3 g image []) _ (R .long)
+        ∙ halt (ask4 g image []) _ (λ H. clash (headerRight g (front g image)) (facts-header g (front g image) H) h)
+
+    pub head-0 : headerRight g (front g image) ≡ true → headNo g image ≡ 0
+    unfolding headNo
+    head-0 h =
+        pass (ask1 g image []) _ (R .allowed) ∙ pass (ask3 g image []) _ (R .long)
+        ∙ pass (ask4 g image []) _ (header-facts g (front g image) h) ∙ first-nil
+
+  -- 1, 3, 4, and then 5
+  whole-line : (cs : List Check) → Headed g image → first (no1 g image [] ∷ no3 g image [] ∷ no4 g image [] ∷ cs) ≡ first cs
+  whole-line cs H = pass (ask1 g image []) _ (H .readable .allowed) ∙ pass (ask3 g image []) _ (H .readable .long) ∙ pass (ask4 g image []) _ (H .header)
+
+  pub whole-shown : wholeNo g image ≡ 0 → Whole g image
+  unfolding wholeNo
+  whole-shown e =
+      let f1 = shown (ask1 g image []) _ (omega arith) e in
+      let f3 = shown (ask3 g image []) _ (omega arith) (f1 .1) in
+      let f4 = shown (ask4 g image []) _ (omega arith) (f3 .1) in
+      let f5 = shown (ask5 g image []) _ (omega arith) (f4 .1) in
+      record { headed = record { readable = record { allowed = f1 .0; long = f3 .0 }; header = f4 .0 }; tail = f5 .0 }
+
+  pub whole-stop : (k : ℕ) → k ≡ headNo g image → k ≢ 0 → wholeNo g image ≡ k
+  unfolding headNo wholeNo
+  whole-stop k e ne = first-stop (no1 g image [] ∷ no3 g image [] ∷ no4 g image [] ∷ []) (no5 g image [] ∷ []) refl k (sym e) ne
+
+  module _ (H : Headed g image) where
+    pub whole-5 : capacity g (length image) < taken g (front g image) → wholeNo g image ≡ 5
+    unfolding wholeNo
+    whole-5 l = whole-line (no5 g image [] ∷ []) H ∙ halt (ask5 g image []) _ (λ h. omega arith)
+
+    pub whole-0 : taken g (front g image) ≤ capacity g (length image) → wholeNo g image ≡ 0
+    unfolding wholeNo
+    whole-0 l = whole-line (no5 g image [] ∷ []) H ∙ pass (ask5 g image []) _ l ∙ first-nil
+
+  -- 8 and 6, of one book
+  module _ (r : ℕ) where
+    pub book-shown : bookNo g image r ≡ 0 → (usable g (front g image) r ≡ true) × (pagesOf g (front g image) r ≤ mostBookPages g)
+    unfolding bookNo
+    book-shown e =
+        let f8 = shown (ask8 g image [] r) _ (omega arith) e in
+        (f8 .0, shown (ask6of g image [] r) _ (omega arith) (f8 .1) .0)
+
+    pub book-8 : usable g (front g image) r ≡ false → bookNo g image r ≡ 8
+    unfolding bookNo
+    book-8 u = halt (ask8 g image [] r) _ (λ h. clash (usable g (front g image) r) h u)
+
+    module _ (u : usable g (front g image) r ≡ true) where
+      pub book-6 : mostBookPages g < pagesOf g (front g image) r → bookNo g image r ≡ 6
+      unfolding bookNo
+      book-6 l = pass (ask8 g image [] r) _ u ∙ halt (ask6of g image [] r) _ (λ h. omega arith)
+
+      pub book-0 : pagesOf g (front g image) r ≤ mostBookPages g → bookNo g image r ≡ 0
+      unfolding bookNo
+      book-0 l = pass (ask8 g image [] r) _ u ∙ pass (ask6of g image [] r) _ l ∙ first-nil
+
+-- ---- the beginnings with one
+module _ (g : Geometry) (image index : List ℕ) where
+  abbrev front4 : List Check
+  front4 = to4 g image index []
+
+  -- 1 to 4: 3 and 4 are those of the image alone
+  pub indexed-head-1 : allowed g ≡ false → indexedHeadNo g image index ≡ 1
+  unfolding indexedHeadNo
+  indexed-head-1 a = halt (ask1 g image index) _ (λ A. clash (allowed g) (facts-allowed g A) a)
+
+  module _ (A : Allowed g) where
+    pub indexed-head-2 : length index ≢ indexBytes g → indexedHeadNo g image index ≡ 2
+    unfolding indexedHeadNo
+    indexed-head-2 ne = pass (ask1 g image index) _ A ∙ halt (ask2 g image index) _ ne
+
+    pub indexed-head-on : length index ≡ indexBytes g → indexedHeadNo g image index ≡ headNo g image
+    unfolding indexedHeadNo headNo
+    indexed-head-on e = pass (ask1 g image index) _ A ∙ pass (ask2 g image index) _ e ∙ sym (pass (ask1 g image []) _ A)
+
+  pub indexed-head-shown : indexedHeadNo g image index ≡ 0 → Headed g image × (length index ≡ indexBytes g)
+  unfolding indexedHeadNo
+  indexed-head-shown e =
+      let f1 = shown (ask1 g image index) _ (omega arith) e in
+      let f2 = shown (ask2 g image index) _ (omega arith) (f1 .1) in
+      let f3 = shown (ask3 g image index) _ (omega arith) (f2 .1) in
+      let f4 = shown (ask4 g image index) _ (omega arith) (f3 .1) in
+      (record { readable = record { allowed = f1 .0; long = f3 .0 }; header = f4 .0 }, f2 .0)
+
+  pass4 : Headed g image → length index ≡ indexBytes g → (later : List Check) → first (to4 g image index later) ≡ first later
+  pass4 H i later =
+      pass (ask1 g image index) _ (H .readable .allowed) ∙ pass (ask2 g image index) _ i ∙ pass (ask3 g image index) _ (H .readable .long)
+      ∙ pass (ask4 g image index) _ (H .header)
+
+  -- 1 to 5
+  pub entered-whole : Entered g image index → Whole g image
+  entered-whole E =
+      record { headed = record { readable = record { allowed = E .geometry; long = E .long }; header = E .header }; tail = E .tail }
+
+  pub whole-entered : Whole g image → length index ≡ indexBytes g → Entered g image index
+  whole-entered W i = record {
+    geometry = W .headed .readable .allowed;
+    indexed = i;
+    long = W .headed .readable .long;
+    header = W .headed .header;
+    tail = W .tail;
+  }
+
+  pass5 : Entered g image index → (later : List Check) → first (to5 g image index later) ≡ first later
+  pass5 E later = pass4 (entered-whole E .headed) (E .indexed) (no5 g image index ∷ later) ∙ pass (ask5 g image index) _ (E .tail)
+
+  shown5 : (later : List Check) → first (to5 g image index later) ≡ 0 → Entered g image index × (first later ≡ 0)
+  shown5 later e =
+      let f1 = shown (ask1 g image index) _ (omega arith) e in
+      let f2 = shown (ask2 g image index) _ (omega arith) (f1 .1) in
+      let f3 = shown (ask3 g image index) _ (omega arith) (f2 .1) in
+      let f4 = shown (ask4 g image index) _ (omega arith) (f3 .1) in
+      let f5 = shown (ask5 g image index) _ (omega arith) (f4 .1) in
+      (record { geometry = f1 .0; indexed = f2 .0; long = f3 .0; header = f4 .0; tail = f5 .0 }, f5 .1)
+
+  pub entered-shown : enteredNo g image index ≡ 0 → Entered g image index
+  unfolding enteredNo
+  entered-shown e = shown5 [] e .0
+
+  pub entered-stop : (k : ℕ) → k ≡ indexedHeadNo g image index → k ≢ 0 → enteredNo g image index ≡ k
+  unfolding indexedHeadNo enteredNo
+  entered-stop k e ne = first-stop front4 (no5 g image index ∷ []) refl k (sym e) ne
+
+  module _ (H : Headed g image) (i : length index ≡ indexBytes g) where
+    pub entered-5 : capacity g (length image) < taken g (front g image) → enteredNo g image index ≡ 5
+    unfolding enteredNo
+    entered-5 l = pass4 H i (no5 g image index ∷ []) ∙ halt (ask5 g image index) _ (λ h. omega arith)
+
+    pub entered-0 : taken g (front g image) ≤ capacity g (length image) → enteredNo g image index ≡ 0
+    unfolding enteredNo
+    entered-0 l = pass4 H i (no5 g image index ∷ []) ∙ pass (ask5 g image index) _ l ∙ first-nil
+
+  -- checks 1 to 6, and the front as a whole
+  pub entered-formed : Entered g image index → Rules g (front g image) → Formed g (capacity g (length image)) (front g image)
+  entered-formed E R = formed g image (E .geometry) (entered-whole E .headed) (E .tail) R
+
+  -- 1 to 7
+  pub ordered-entered : Ordered g image index → Entered g image index
+  ordered-entered O = record {
+    geometry = O .geometry;
+    indexed = rw (O .recovered) (length-index g (O .geometry) (front g image) (O .formed .rules) (O .formed .header .taken-most));
+    long = O .long;
+    header = O .formed .header;
+    tail = O .formed .tail;
+  }
+
+  pass7 : Ordered g image index → (later : List Check) → first (to7 g image index later) ≡ first later
+  pass7 O later =
+      pass5 (ordered-entered O) (no6 g image index ∷ no7 g image index ∷ later) ∙ pass (ask6 g image index) _ (O .formed .rules)
+      ∙ pass (ask7 g image index) _ (O .recovered)
+
+  shown7 : (later : List Check) → first (to7 g image index later) ≡ 0 → Ordered g image index × (first later ≡ 0)
+  shown7 later e =
+      let p = shown5 (no6 g image index ∷ no7 g image index ∷ later) e in
+      let f6 = shown (ask6 g image index) _ (omega arith) (p .1) in
+      let f7 = shown (ask7 g image index) _ (omega arith) (f6 .1) in
+      (record { geometry = p .0 .geometry; long = p .0 .long; formed = entered-formed (p .0) (f6 .0); recovered = f7 .0 }, f7 .1)
+
+  pub ordered-shown : orderedNo g image index ≡ 0 → Ordered g image index
+  unfolding orderedNo
+  ordered-shown e = shown7 [] e .0
+
+  pub ordered-stop : (k : ℕ) → k ≡ enteredNo g image index → k ≢ 0 → orderedNo g image index ≡ k
+  unfolding enteredNo orderedNo
+  ordered-stop k e ne = first-stop (to5 g image index []) (no6 g image index ∷ no7 g image index ∷ []) refl k (sym e) ne
+
+  module _ (E : Entered g image index) where
+    pub ordered-6 : inOrder g (front g image) ≡ false → orderedNo g image index ≡ 6
+    unfolding orderedNo
+    ordered-6 e = pass5 E (no6 g image index ∷ no7 g image index ∷ []) ∙ halt (ask6 g image index) _ (λ R. clash (inOrder g (front g image)) (rules-order g (front g image) R) e)
+
+    module _ (R : Rules g (front g image)) where
+      pub ordered-7 : index ≢ indexOf g (front g image) → orderedNo g image index ≡ 7
+      unfolding orderedNo
+      ordered-7 n = pass5 E (no6 g image index ∷ no7 g image index ∷ []) ∙ pass (ask6 g image index) _ R ∙ halt (ask7 g image index) _ n
+
+      pub ordered-0 : index ≡ indexOf g (front g image) → orderedNo g image index ≡ 0
+      unfolding orderedNo
+      ordered-0 e =
+          pass5 E (no6 g image index ∷ no7 g image index ∷ []) ∙ pass (ask6 g image index) _ R ∙ pass (ask7 g image index) _ e ∙ first-nil
+
+-- ---- each call's line: refused by its beginning, refused later, or not
+module _ (g : Geometry) (image index : List ℕ) where
+  abbrev tables : List ℕ
+  tables = front g image
+
+  -- ---- lay: 1, 2, 3, 12
+  pub lay-accepted : refusal g image index lay ≡ 0 → Allowed g × (length index ≡ indexBytes g) × (blockBytes g ≤ length image) × (blank g image ≡ true)
+  unfolding checks
+  lay-accepted e =
+      let f1 = shown (ask1 g image index) _ (omega arith) e in
+      let f2 = shown (ask2 g image index) _ (omega arith) (f1 .1) in
+      let f3 = shown (ask3 g image index) _ (omega arith) (f2 .1) in
+      let f12 = shown (ask12 g image index) _ (omega arith) (f3 .1) in
+      (f1 .0, f2 .0, f3 .0, f12 .0)
+
+  pub lay-1 : allowed g ≡ false → refusal g image index lay ≡ 1
+  unfolding checks
+  lay-1 a = halt (ask1 g image index) _ (λ A. clash (allowed g) (facts-allowed g A) a)
+
+  module _ (A : Allowed g) where
+    pub lay-2 : length index ≢ indexBytes g → refusal g image index lay ≡ 2
+    unfolding checks
+    lay-2 ne = pass (ask1 g image index) _ A ∙ halt (ask2 g image index) _ ne
+
+    module _ (i : length index ≡ indexBytes g) where
+      pub lay-3 : length image < blockBytes g → refusal g image index lay ≡ 3
+      unfolding checks
+      lay-3 l = pass (ask1 g image index) _ A ∙ pass (ask2 g image index) _ i ∙ halt (ask3 g image index) _ (λ h. omega arith)
+
+      module _ (long : blockBytes g ≤ length image) where
+        pub lay-12 : blank g image ≡ false → refusal g image index lay ≡ 12
+        unfolding checks
+        lay-12 b =
+            pass (ask1 g image index) _ A ∙ pass (ask2 g image index) _ i ∙ pass (ask3 g image index) _ long
+            ∙ halt (ask12 g image index) _ (λ h. clash (blank g image) h b)
+
+        pub lay-0 : blank g image ≡ true → refusal g image index lay ≡ 0
+        unfolding checks
+        lay-0 b =
+            pass (ask1 g image index) _ A ∙ pass (ask2 g image index) _ i ∙ pass (ask3 g image index) _ long
+            ∙ pass (ask12 g image index) _ b ∙ first-nil
+
+  -- ---- recover: 1 to 6
+  pub recover-accepted : refusal g image index recover ≡ 0 → Entered g image index × Rules g (front g image)
+  unfolding checks
+  recover-accepted e =
+      let p = shown5 g image index (no6 g image index ∷ []) e in
+      (p .0, shown (ask6 g image index) _ (omega arith) (p .1) .0)
+
+  pub recover-stop : (k : ℕ) → k ≡ indexedHeadNo g image index → k ≢ 0 → refusal g image index recover ≡ k
+  unfolding indexedHeadNo checks
+  recover-stop k e ne = first-stop (front4 g image index) (no5 g image index ∷ no6 g image index ∷ []) refl k (sym e) ne
+
+  pub recover-5 : Headed g image → length index ≡ indexBytes g → capacity g (length image) < taken g (front g image) → refusal g image index recover ≡ 5
+  unfolding checks
+  recover-5 H i l = pass4 g image index H i (no5 g image index ∷ no6 g image index ∷ []) ∙ halt (ask5 g image index) _ (λ h. omega arith)
+
+  module _ (E : Entered g image index) where
+    pub recover-6 : inOrder g (front g image) ≡ false → refusal g image index recover ≡ 6
+    unfolding checks
+    recover-6 e = pass5 g image index E (no6 g image index ∷ []) ∙ halt (ask6 g image index) _ (λ R. clash (inOrder g tables) (rules-order g tables R) e)
+
+    pub recover-0 : Rules g (front g image) → refusal g image index recover ≡ 0
+    unfolding checks
+    recover-0 R = pass5 g image index E (no6 g image index ∷ []) ∙ pass (ask6 g image index) _ R ∙ first-nil
+
+  -- the geometry and the index's length once right, it is refused as the image alone says
+  pub recover-formed : Allowed g → length index ≡ indexBytes g → (refusal g image index recover ≡ 0) ↔ (wellFormed g image ≡ true)
+  unfolding checks wellFormed
+  recover-formed A i =
+      let later = pass (ask1 g image index) _ A ∙ pass (ask2 g image index) _ i in
+      (λ e. eq-eqb _ _ (sym later ∙ e), λ e. later ∙ eqb-true _ _ e)
+
+  -- and what the index holds does not matter, only how long it is
+  pub recover-same : (other : List ℕ) → length index ≡ length other → refusal g image index recover ≡ refusal g image other recover
+  unfolding checks
+  recover-same other e = rw e
+
+  -- ---- open: 1 to 7, 11
+  pub open-accepted : refusal g image index «open» ≡ 0 → Ordered g image index × (nextRegion g (front g image) < noRegion g)
+  unfolding checks
+  open-accepted e =
+      let p = shown7 g image index (no11 g image index ∷ []) e in
+      (p .0, shown (ask11 g image index) _ (omega arith) (p .1) .0)
+
+  pub open-stop : (k : ℕ) → k ≡ orderedNo g image index → k ≢ 0 → refusal g image index «open» ≡ k
+  unfolding orderedNo checks
+  open-stop k e ne = first-stop (to7 g image index []) (no11 g image index ∷ []) refl k (sym e) ne
+
+  module _ (O : Ordered g image index) where
+    pub open-11 : noRegion g ≤ nextRegion g (front g image) → refusal g image index «open» ≡ 11
+    unfolding checks
+    open-11 l = pass7 g image index O (no11 g image index ∷ []) ∙ halt (ask11 g image index) _ (λ h. omega arith)
+
+    pub open-0 : nextRegion g (front g image) < noRegion g → refusal g image index «open» ≡ 0
+    unfolding checks
+    open-0 l = pass7 g image index O (no11 g image index ∷ []) ∙ pass (ask11 g image index) _ l ∙ first-nil
+
+  -- ---- grow: 1 to 8, 10
+  module _ (r n : ℕ) where
+    abbrev growing : List Check
+    growing = no8 g image index r ∷ no10 g image index r n ∷ []
+
+    pub grow-accepted : refusal g image index (grow r n) ≡ 0
+        → Ordered g image index × (usable g (front g image) r ≡ true)
+        × (newBlocks g r n (front g image) ≤ needOf g (front g image) reclaimed + (capacity g (length image) - taken g (front g image)))
+    unfolding checks
+    grow-accepted e =
+        let p = shown7 g image index growing e in
+        let f8 = shown (ask8 g image index r) _ (omega arith) (p .1) in
+        (p .0, f8 .0, shown (ask10 g image index r n) _ (omega arith) (f8 .1) .0)
+
+    pub grow-stop : (k : ℕ) → k ≡ orderedNo g image index → k ≢ 0 → refusal g image index (grow r n) ≡ k
+    unfolding orderedNo checks
+    grow-stop k e ne = first-stop (to7 g image index []) growing refl k (sym e) ne
+
+    module _ (O : Ordered g image index) where
+      pub grow-8 : usable g (front g image) r ≡ false → refusal g image index (grow r n) ≡ 8
+      unfolding checks
+      grow-8 u = pass7 g image index O growing ∙ halt (ask8 g image index r) _ (λ h. clash (usable g tables r) h u)
+
+      module _ (u : usable g (front g image) r ≡ true) where
+        pub grow-10 : needOf g (front g image) reclaimed + (capacity g (length image) - taken g (front g image)) < newBlocks g r n (front g image)
+            → refusal g image index (grow r n) ≡ 10
+        unfolding checks
+        grow-10 l = pass7 g image index O growing ∙ pass (ask8 g image index r) _ u ∙ halt (ask10 g image index r n) _ (λ h. omega arith)
+
+        pub grow-0 : newBlocks g r n (front g image) ≤ needOf g (front g image) reclaimed + (capacity g (length image) - taken g (front g image))
+            → refusal g image index (grow r n) ≡ 0
+        unfolding checks
+        grow-0 l = pass7 g image index O growing ∙ pass (ask8 g image index r) _ u ∙ pass (ask10 g image index r n) _ l ∙ first-nil
+
+  -- ---- release: 1 to 8
+  module _ (r : ℕ) where
+    abbrev releasing : List Check
+    releasing = no8release g image index r ∷ []
+
+    pub release-accepted : refusal g image index (release r) ≡ 0 → Ordered g image index × (usable g (front g image) r ≡ true) × (fixedRegions ≤ r)
+    unfolding checks
+    release-accepted e =
+        let p = shown7 g image index releasing e in
+        let f8 = shown (ask8release g image index r) _ (omega arith) (p .1) .0 in
+        (p .0, f8 .0, callable-facts r (usable-facts g tables r (f8 .0) .0) (f8 .1))
+
+    pub release-stop : (k : ℕ) → k ≡ orderedNo g image index → k ≢ 0 → refusal g image index (release r) ≡ k
+    unfolding orderedNo checks
+    release-stop k e ne = first-stop (to7 g image index []) releasing refl k (sym e) ne
+
+    module _ (O : Ordered g image index) where
+      pub release-8 : ((usable g (front g image) r ≡ true) × (r ≢ 0) → ⊥) → refusal g image index (release r) ≡ 8
+      unfolding checks
+      release-8 n = pass7 g image index O releasing ∙ halt (ask8release g image index r) _ n
+
+      pub release-0 : usable g (front g image) r ≡ true → r ≢ 0 → refusal g image index (release r) ≡ 0
+      unfolding checks
+      release-0 u ne = pass7 g image index O releasing ∙ pass (ask8release g image index r) _ (u, ne) ∙ first-nil
+
+  -- ---- load, store, look: 1 to 5, 8, 6, 9, 7
+  -- the checks see only how many bytes are asked
+  pub load-number : (r o : ℕ) (buffer : List ℕ) → refusal g image index (load r o buffer) ≡ readNo g image index r o (length buffer)
+  unfolding readNo checks
+  load-number r o buffer = refl
+
+  pub store-number : (r o : ℕ) (bytes : List ℕ) → refusal g image index (store r o bytes) ≡ readNo g image index r o (length bytes)
+  unfolding readNo checks
+  store-number r o bytes = refl
+
+  pub look-number : (r o : ℕ) → refusal g image index (look r o) ≡ readNo g image index r o 0
+  unfolding readNo checks
+  look-number r o = refl
+
+  module _ (r o n : ℕ) where
+    abbrev last : List Check
+    last = no9 g image index r o n ∷ no7of g image index r o n ∷ []
+
+    pub read-accepted : readNo g image index r o n ≡ 0 → Reads g image index r o n
+    unfolding readNo
+    read-accepted e =
+        let p = shown5 g image index (ofBook g image index r last) e in
+        let f8 = shown (ask8 g image index r) _ (omega arith) (p .1) in
+        let f6 = shown (ask6of g image index r) _ (omega arith) (f8 .1) in
+        let f9 = shown (ask9 g image index r o n) _ (omega arith) (f6 .1) in
+        let f7 = shown (ask7of g image index r o n) _ (omega arith) (f9 .1) in
+        record { entered = p .0; usable = f8 .0; fits = f6 .0; within = f9 .0; right = f7 .0 }
+
+    pub read-stop : (k : ℕ) → k ≡ enteredNo g image index → k ≢ 0 → readNo g image index r o n ≡ k
+    unfolding enteredNo readNo
+    read-stop k e ne = first-stop (to5 g image index []) (ofBook g image index r last) refl k (sym e) ne
+
+    module _ (E : Entered g image index) where
+      pub read-book : (k : ℕ) → k ≡ bookNo g image r → k ≢ 0 → readNo g image index r o n ≡ k
+      unfolding bookNo readNo
+      read-book k e ne = pass5 g image index E (ofBook g image index r last) ∙ first-stop (ofBook g image [] r []) last refl k (sym e) ne
+
+      module _ (u : usable g (front g image) r ≡ true) (f : pagesOf g (front g image) r ≤ mostBookPages g) where
+        on-last : readNo g image index r o n ≡ first last
+        unfolding readNo
+        on-last = pass5 g image index E (ofBook g image index r last) ∙ pass (ask8 g image index r) _ u ∙ pass (ask6of g image index r) _ f
+
+        pub read-9 : pagesOf g (front g image) r * g .page < o + n → readNo g image index r o n ≡ 9
+        read-9 l = on-last ∙ halt (ask9 g image index r o n) _ (λ h. omega arith)
+
+        pub read-7 : o + n ≤ pagesOf g (front g image) r * g .page → touchedRight g (front g image) index r o n ≡ false → readNo g image index r o n ≡ 7
+        read-7 l e =
+            on-last ∙ pass (ask9 g image index r o n) _ l
+            ∙ halt (ask7of g image index r o n) _ (λ h. clash (touchedRight g (front g image) index r o n) h e)
+
+    pub read-8 : Entered g image index → usable g (front g image) r ≡ false → readNo g image index r o n ≡ 8
+    read-8 E u = read-book E 8 (sym (book-8 g image r u)) (omega arith)
+
+    pub read-0 : Reads g image index r o n → readNo g image index r o n ≡ 0
+    read-0 F =
+        on-last (F .entered) (F .usable) (F .fits) ∙ pass (ask9 g image index r o n) _ (F .within) ∙ pass (ask7of g image index r o n) _ (F .right)
+        ∙ first-nil
+
+  module _ (r o : ℕ) (xs : List ℕ) where
+    pub load-accepted : refusal g image index (load r o xs) ≡ 0 → Reads g image index r o (length xs)
+    load-accepted e = read-accepted r o (length xs) (sym (load-number r o xs) ∙ e)
+
+    pub accepts-load : Reads g image index r o (length xs) → refusal g image index (load r o xs) ≡ 0
+    accepts-load F = load-number r o xs ∙ read-0 r o (length xs) F
+
+    pub store-accepted : refusal g image index (store r o xs) ≡ 0 → Reads g image index r o (length xs)
+    store-accepted e = read-accepted r o (length xs) (sym (store-number r o xs) ∙ e)
+
+    pub accepts-store : Reads g image index r o (length xs) → refusal g image index (store r o xs) ≡ 0
+    accepts-store F = store-number r o xs ∙ read-0 r o (length xs) F
+
+  -- ---- size: 1, 3, 4, 5, 8, 6
+  module _ (r : ℕ) where
+    abbrev sizing : List Check
+    sizing = no1 g image [] ∷ no3 g image [] ∷ no4 g image [] ∷ no5 g image [] ∷ []
+
+    pub size-stop : (k : ℕ) → k ≡ wholeNo g image → k ≢ 0 → refusal g image index (size r) ≡ k
+    unfolding wholeNo checks
+    size-stop k e ne = first-stop sizing (ofBook g image [] r []) refl k (sym e) ne
+
+    pub size-on : Whole g image → refusal g image index (size r) ≡ bookNo g image r
+    unfolding bookNo checks
+    size-on W = whole-line g image (no5 g image [] ∷ ofBook g image [] r []) (W .headed) ∙ pass (ask5 g image []) _ (W .tail)
+
+    pub size-accepted : refusal g image index (size r) ≡ 0
+        → Whole g image × (usable g (front g image) r ≡ true) × (pagesOf g (front g image) r ≤ mostBookPages g)
+    unfolding checks
+    size-accepted e =
+        let f1 = shown (ask1 g image []) _ (omega arith) e in
+        let f3 = shown (ask3 g image []) _ (omega arith) (f1 .1) in
+        let f4 = shown (ask4 g image []) _ (omega arith) (f3 .1) in
+        let f5 = shown (ask5 g image []) _ (omega arith) (f4 .1) in
+        let f8 = shown (ask8 g image [] r) _ (omega arith) (f5 .1) in (
+          record { headed = record { readable = record { allowed = f1 .0; long = f3 .0 }; header = f4 .0 }; tail = f5 .0 },
+          f8 .0,
+          shown (ask6of g image [] r) _ (omega arith) (f8 .1) .0,
+        )
+
+-- the checks of a load see the image's front and length, and the index
+pub load-same : (g : Geometry) (image later index : List ℕ) (r o : ℕ) (xs : List ℕ) → length image ≡ length later → front g image ≡ front g later
+    → refusal g later index (load r o xs) ≡ refusal g image index (load r o xs)
+unfolding checks
+load-same g image later index r o xs l f = rw (l, f)
+
+-- the checks of size see the image alone
+pub size-alone : (g : Geometry) (image index other : List ℕ) (r : ℕ) → refusal g image index (size r) ≡ refusal g image other (size r)
+unfolding checks
+size-alone g image index other r = refl
+
+-- every line begins with 1
+pub refused-1 : (g : Geometry) (image index : List ℕ) → allowed g ≡ false → (c : Call) → refusal g image index c ≡ 1
+unfolding checks
+refused-1 g image index a lay = halt (ask1 g image index) _ (λ A. clash (allowed g) (facts-allowed g A) a)
+refused-1 g image index a «open» = halt (ask1 g image index) _ (λ A. clash (allowed g) (facts-allowed g A) a)
+refused-1 g image index a (grow r n) = halt (ask1 g image index) _ (λ A. clash (allowed g) (facts-allowed g A) a)
+refused-1 g image index a (load r o b) = halt (ask1 g image index) _ (λ A. clash (allowed g) (facts-allowed g A) a)
+refused-1 g image index a (store r o b) = halt (ask1 g image index) _ (λ A. clash (allowed g) (facts-allowed g A) a)
+refused-1 g image index a (look r o) = halt (ask1 g image index) _ (λ A. clash (allowed g) (facts-allowed g A) a)
+refused-1 g image index a (size r) = halt (ask1 g image index) _ (λ A. clash (allowed g) (facts-allowed g A) a)
+refused-1 g image index a (release r) = halt (ask1 g image index) _ (λ A. clash (allowed g) (facts-allowed g A) a)
+refused-1 g image index a recover = halt (ask1 g image index) _ (λ A. clash (allowed g) (facts-allowed g A) a)
+
+-- ---- a call is refused with k exactly where the checks before k's pass and its test refuses
+line-distinct : (g : Geometry) (image index : List ℕ) (c : Call) → distinct (checks g image index c) ≡ true
+unfolding checks
+line-distinct g image index lay = refl
+line-distinct g image index «open» = refl
+line-distinct g image index (grow r n) = refl
+line-distinct g image index (load r o b) = refl
+line-distinct g image index (store r o b) = refl
+line-distinct g image index (look r o) = refl
+line-distinct g image index (size r) = refl
+line-distinct g image index (release r) = refl
+line-distinct g image index recover = refl
+
+pub refused-exactly : (g : Geometry) (image index : List ℕ) (c : Call) (cs : List Check) (d : Check) (ds : List Check)
+    → checks g image index c ≡ cs ++ (d ∷ ds) → (refusal g image index c ≡ d .no) ↔ ((first cs ≡ 0) × (d .refuses ≡ true))
+refused-exactly g image index c cs d ds line = rw line (first-exactly cs d ds (rw line at (line-distinct g image index c)))
+
+-- ---- what a refused call leaves, and each call when it is done
+module _ (g : Geometry) (c : Call) (s : State) where
+  pub outcome-done : refusal g (s .image) (s .index) c ≡ 0 → outcome g c s ≡ accepted g c s
+  unfolding outcome
+  outcome-done e = rw e
+
+  pub refused : (k : ℕ) → refusal g (s .image) (s .index) c ≡ k → k ≢ 0 → outcome g c s ≡ gives (Refused k) (buffer g c) s
+  unfolding outcome
+  refused k e ne = rw (e, ne-eqb k 0 ne)
+
+module _ (g : Geometry) (s : State) where
+  pub lay-done : refusal g (s .image) (s .index) lay ≡ 0 → outcome g lay s ≡ gives (Done 0) [] (lent (laid g ++ rest g (s .image)) (emptyIndex g))
+  unfolding accepted
+  lay-done e = outcome-done g lay s e
+
+  pub recover-done : refusal g (s .image) (s .index) recover ≡ 0
+      → outcome g recover s ≡ gives (Done 0) [] (lent (s .image) (indexOf g (front g (s .image))))
+  unfolding accepted
+  recover-done e = outcome-done g recover s e
+
+  pub open-done : refusal g (s .image) (s .index) «open» ≡ 0
+      → outcome g «open» s ≡ gives (Done (nextRegion g (front g (s .image)))) [] (tabled g (opened g (front g (s .image))) (s .image))
+  unfolding accepted
+  open-done e = outcome-done g «open» s e
+
+  pub grow-done : (r n : ℕ) → refusal g (s .image) (s .index) (grow r n) ≡ 0
+      → outcome g (grow r n) s
+      ≡ gives (Done (pagesOf g (front g (s .image)) r)) [] (lent (grown g r n (s .image)) (indexOf g (front g (grown g r n (s .image)))))
+  unfolding accepted
+  grow-done r n e = outcome-done g (grow r n) s e
+
+  pub release-done : (r : ℕ) → refusal g (s .image) (s .index) (release r) ≡ 0
+      → outcome g (release r) s ≡ gives (Done 0) [] (tabled g (released g r (front g (s .image))) (s .image))
+  unfolding accepted
+  release-done r e = outcome-done g (release r) s e
+
+  pub load-done : (r o : ℕ) (b : List ℕ) → refusal g (s .image) (s .index) (load r o b) ≡ 0
+      → outcome g (load r o b) s ≡ gives (Done 0) (loaded g (blockIn g (s .index) r) o (length b) (s .image)) s
+  unfolding accepted
+  load-done r o b e = outcome-done g (load r o b) s e
+
+  pub store-done : (r o : ℕ) (ys : List ℕ) → refusal g (s .image) (s .index) (store r o ys) ≡ 0
+      → outcome g (store r o ys) s
+      ≡ gives (Done 0) [] (lent (stored g (blockIn g (s .index) r) (needOf g (front g (s .image)) r) o ys (s .image)) (s .index))
+  unfolding accepted
+  store-done r o ys e = outcome-done g (store r o ys) s e
+
+  pub size-done : (r : ℕ) → refusal g (s .image) (s .index) (size r) ≡ 0 → outcome g (size r) s ≡ gives (Done (pagesOf g (front g (s .image)) r)) [] s
+  unfolding accepted
+  size-done r e = outcome-done g (size r) s e
+
+  -- look's part, unless the offset is the end or a load of one byte would be refused
+  pub look-done : (r o : ℕ) → refusal g (s .image) (s .index) (look r o) ≡ 0
+      → outcome g (look r o) s
+      ≡ gives (Done 0)
+      (cond (eqb o (pagesOf g (front g (s .image)) r * g .page) || not (eqb (readNo g (s .image) (s .index) r o 1) 0)) []
+      (loaded g (blockIn g (s .index) r) o (lookBytes g (front g (s .image)) r o) (s .image)))
+      s
+  unfolding accepted readNo checks
+  look-done r o e = outcome-done g (look r o) s e
+
+-- the answer of an accepted call: "done", and the paper's number and value of its case
+pub accepted-paper : (g : Geometry) (c : Call) (s : State)
+    → (accepted g c s .number ≡ numberOf (accepted g c s .answer)) × (accepted g c s .value ≡ valueOf (accepted g c s .answer))
+unfolding accepted
+accepted-paper g lay s = (refl, refl)
+accepted-paper g «open» s = (refl, refl)
+accepted-paper g (grow r n) s = (refl, refl)
+accepted-paper g (load r o b) s = (refl, refl)
+accepted-paper g (store r o b) s = (refl, refl)
+accepted-paper g (look r o) s = (refl, refl)
+accepted-paper g (size r) s = (refl, refl)
+accepted-paper g (release r) s = (refl, refl)
+accepted-paper g recover s = (refl, refl)
+
+pub accepted-number : (g : Geometry) (c : Call) (s : State) → accepted g c s .number ≡ 0
+unfolding accepted
+accepted-number g lay s = refl
+accepted-number g «open» s = refl
+accepted-number g (grow r n) s = refl
+accepted-number g (load r o b) s = refl
+accepted-number g (store r o b) s = refl
+accepted-number g (look r o) s = refl
+accepted-number g (size r) s = refl
+accepted-number g (release r) s = refl
+accepted-number g recover s = refl

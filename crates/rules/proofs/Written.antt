@@ -1,0 +1,140 @@
+-- A front written from what stands in it reads back as that; and its parts, as they are written one after the other.
+use Prim.Native.Nat.{ℕ, _+_, _*_, _≤_, _<_}
+use mathlib.Core.Path.{_≡_, refl, sym, _∙_}
+use mathlib.Core.List.{List, [], _++_, append-assoc, append-nil}
+use native.Mathlib.Omega.{arith}
+use lib.ListN.{drop, length, length-append}
+use lib.Seq.{drop-drop, drop-append-add, drop-at}
+use Rattle.laws.specs.Folds.{joinBelow}
+use Rattle.laws.specs.Bytes.{value, num, le, splice, put}
+use Rattle.laws.proofs.Lists.{length-rows, drop-rows, splice-start, splice-then}
+use Rattle.laws.proofs.Bytes.{length-le, value-le}
+use Rattle.paper.specs.declared.Geometry.{Geometry}
+use Rattle.paper.specs.Geometry.{headerBytes, markerAt, versionAt, takenAt, counterAt, blankAt, version, entryAt, sizeAt, frontBytes}
+use Rattle.paper.specs.Image.{Size, coded, stamp, taken, counter, owner, place, sizeOf, writtenHeader, entryRow, sizeRow, written}
+use Rattle.rules.specs.Facts.{fronted}
+use Rattle.rules.proofs.Cells.{Codable, decoded-coded, coded-fits}
+
+-- ---- the lengths of its parts
+pub length-header : (v n c : ℕ) → length (writtenHeader v n c) ≡ headerBytes
+unfolding writtenHeader
+length-header v n c = simp (length-append, length-le)
+
+pub length-entry : (own pos : ℕ → ℕ) (b : ℕ) → length (entryRow own pos b) ≡ 4
+unfolding entryRow
+length-entry own pos b = simp (length-append, length-le)
+
+pub length-size : (size : ℕ → Size) (r : ℕ) → length (sizeRow size r) ≡ 8
+unfolding sizeRow
+length-size size r = length-le 8 (coded (size r))
+
+-- ---- its parts, number by number
+pub header-put : (v n c : ℕ) (xs : List ℕ)
+    → put 4 blankAt 0 (put 2 counterAt c (put 2 takenAt n (put 4 versionAt v (put 4 markerAt 0 xs)))) ≡ splice 0 (writtenHeader v n c) xs
+unfolding writtenHeader
+header-put v n c xs =
+    let to4 = le 4 0 in
+    let to8 = to4 ++ le 4 v in
+    let to10 = to8 ++ le 2 n in
+    let to12 = to10 ++ le 2 c in
+    rw (
+      splice-then 0 versionAt to4 (le 4 v) xs (simp length-le) (omega arith),
+      splice-then 0 takenAt to8 (le 2 n) xs (simp (length-append, length-le)) (omega arith),
+      splice-then 0 counterAt to10 (le 2 c) xs (simp (length-append, length-le)) (omega arith),
+      splice-then 0 blankAt to12 (le 4 0) xs (simp (length-append, length-le)) (omega arith),
+    )
+
+pub entry-put : (own pos : ℕ → ℕ) (b at : ℕ) (xs : List ℕ) → at ≤ length xs
+    → put 2 (at + 2) (pos b) (put 2 at (own b) xs) ≡ splice at (entryRow own pos b) xs
+unfolding entryRow
+entry-put own pos b at xs h = splice-then at (at + 2) (le 2 (own b)) (le 2 (pos b)) xs (rw length-le) h
+
+pub size-put : (size : ℕ → Size) (r at : ℕ) (xs : List ℕ) → put 8 at (coded (size r)) xs ≡ splice at (sizeRow size r) xs
+unfolding sizeRow
+size-put size r at xs = refl
+
+module _ (g : Geometry) (v n c : ℕ) (own pos : ℕ → ℕ) (size : ℕ → Size) where
+  abbrev front : List ℕ
+  front = written g v n c own pos size
+
+  abbrev sizes : List ℕ
+  sizes = joinBelow (g .entries) (sizeRow size)
+
+  abbrev entries : List ℕ
+  entries = joinBelow (g .blocks) (entryRow own pos)
+
+  length-entries : length entries ≡ g .blocks * 4
+  length-entries = length-rows 4 (entryRow own pos) (length-entry own pos) (g .blocks)
+
+  pub length-written : length (written g v n c own pos size) ≡ frontBytes g
+  unfolding written
+  length-written =
+      simp (length-append, length-header v n c, length-entries, length-rows 8 (sizeRow size) (length-size size) (g .entries)) (omega arith)
+
+  -- ---- header, then blocks, then regions
+  pub written-joined : (xs : List ℕ)
+      → splice (sizeAt g 0) (joinBelow (g .entries) (sizeRow size))
+      (splice headerBytes (joinBelow (g .blocks) (entryRow own pos)) (splice 0 (writtenHeader v n c) xs))
+      ≡ fronted g (written g v n c own pos size) xs
+  unfolding written
+  written-joined xs =
+      let h = writtenHeader v n c in
+      let m : sizeAt g 0 ≡ 0 + length (h ++ entries) = rw (length-append, length-header v n c, length-entries) (omega arith) in
+      rw (
+        splice-then 0 headerBytes h entries xs (rw length-header) (omega arith),
+        splice-then 0 (sizeAt g 0) (h ++ entries) sizes xs m (omega arith),
+        append-assoc h entries sizes,
+      )
+      (splice-start (frontBytes g) front xs length-written)
+
+  -- ---- the header
+  pub stamp-written : v ≡ version → stamp g (written g v n c own pos size) ≡ v
+  unfolding stamp written writtenHeader num value le
+  stamp-written e = rw e
+
+  pub taken-written : n < 65536 → taken g (written g v n c own pos size) ≡ n
+  unfolding taken written writtenHeader num le
+  taken-written h = value-le 2 n (le 2 c ++ (le 4 0 ++ (entries ++ sizes))) h
+
+  pub counter-written : c < 65536 → counter g (written g v n c own pos size) ≡ c
+  unfolding counter written writtenHeader num le
+  counter-written h = value-le 2 c (le 4 0 ++ (entries ++ sizes)) h
+
+  after-header : (k : ℕ) → drop (16 + k) front ≡ drop k (entries ++ sizes)
+  unfolding written writtenHeader le
+  after-header k = sym (drop-drop k 16 front)
+
+  -- ---- block b's entry
+  module _ (b : ℕ) (h : b < g .blocks) where
+    entry-at : (y : List ℕ) × (drop (entryAt g b) front ≡ le 2 (own b) ++ (le 2 (pos b) ++ y))
+    unfolding entryRow
+    entry-at =
+        let d = drop-rows 4 (entryRow own pos) (length-entry own pos) (g .blocks) b sizes h in
+        let e : b * 4 ≡ 4 * b = omega arith in
+        (d .0, after-header (4 * b) ∙ (rw e at (d .1)) ∙ append-assoc (le 2 (own b)) (le 2 (pos b)) (d .0))
+
+    pub owner-written : own b < 65536 → owner g (written g v n c own pos size) b ≡ own b
+    unfolding owner num
+    owner-written l = let d = entry-at in rw (d .1) (value-le 2 (own b) (le 2 (pos b) ++ d .0) l)
+
+    pub place-written : pos b < 65536 → place g (written g v n c own pos size) b ≡ pos b
+    unfolding place num
+    place-written l =
+        let d = entry-at in
+        rw (← drop-drop 2 (entryAt g b) front, d .1, drop-at (le 2 (own b)) (le 2 (pos b) ++ d .0) 2 (length-le 2 (own b)))
+        (value-le 2 (pos b) (d .0) l)
+
+  -- ---- region r's entry
+  module _ (r : ℕ) (h : r < g .entries) where
+    size-at : (y : List ℕ) × (drop (sizeAt g r) front ≡ le 8 (coded (size r)) ++ y)
+    unfolding sizeRow
+    size-at =
+        let e : sizeAt g r ≡ 16 + (length entries + r * 8) = omega (arith, length-entries) in
+        let d = drop-rows 8 (sizeRow size) (length-size size) (g .entries) r [] h in
+        (d .0, rw e (after-header (length entries + r * 8) ∙ drop-append-add entries sizes (r * 8) ∙ (rw append-nil at (d .1))))
+
+    pub size-written : Codable (size r) → sizeOf g (written g v n c own pos size) r ≡ size r
+    unfolding sizeOf num
+    size-written k =
+        let d = size-at in
+        rw (d .1, value-le 8 (coded (size r)) (d .0) (coded-fits (size r) k)) (decoded-coded (size r) k)
