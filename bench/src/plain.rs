@@ -134,8 +134,7 @@ fn regions_in_order(g: Geometry, image: &[u8], header: &Header, mut each_start: 
             continue;
         }
         let odd = region == 1 && !pages.is_multiple_of(g.pages as u64);
-        let kept_back = (2..FIXED_REGIONS).contains(&region) && pages != 0;
-        if region >= header.counter || pages > g.most_book_pages() || odd || kept_back {
+        if region >= header.counter || pages > g.most_book_pages() || odd {
             return false;
         }
         start += g.need(pages);

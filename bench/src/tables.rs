@@ -23,7 +23,8 @@ pub struct Ledger {
 
 impl Ledger {
     pub fn drawn(blocks: u64) -> Ledger {
-        let wanted = Wanted { taken: blocks, opened: blocks / 2, released: 5, share: 8 };
+        let wanted =
+            Wanted { taken: blocks, opened: blocks / 2, released: 5, share: 8, kept_share: 0, kept_back: (2, 15) };
         let mut tables = drawn(HOUSE, &wanted, &mut Random::new(21));
         reclaim_one(&mut tables);
         tables.well_formed(HOUSE).expect("tables as they are drawn");

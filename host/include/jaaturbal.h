@@ -11,7 +11,8 @@
  *   regions that open gives  16..22      16..32,766
  *   bytes of the index          82        131,074
  *
- * An image has room for the blocks that fit in it whole, less the first.
+ * An image has room for the blocks that fit in it whole, less the first. Regions 1 to 15 are no caller's: 1 holds the blocks that
+ * releases gave back, and an image may come with pages in 2 to 15, which take up room and which no call reads or changes.
  *
  * Memory. Every slice is a pointer, which is not NULL, and the count of bytes behind it. A slice that a call may write (a pointer
  * without const) must overlap with no other slice of that call. Slices that are only read may overlap. No call keeps a pointer,

@@ -1,4 +1,4 @@
-// The bench table through the compiled calls: a line for each case, with four of the house after them.
+// The bench table through the compiled calls: a line for each case, with six of the house after them.
 // The table is walked row by row, and a case holds where each of its rows does.
 use libc::STDOUT_FILENO;
 use paper::Answer;
@@ -24,24 +24,26 @@ const RELEASE: u64 = 5;
 
 const RECOVER: u64 = 6;
 
+const SIZE: u64 = 7;
+
 // or a look, which hands back a part of that length whose bytes are the value,
-const LOOK: u64 = 7;
+const LOOK: u64 = 8;
 
 // or a change by hand: image and index all zero, the index all zero, or one byte of the image,
-const ZERO: u64 = 8;
+const ZERO: u64 = 9;
 
-const WIPE: u64 = 9;
+const WIPE: u64 = 10;
 
-const PUT: u64 = 10;
+const PUT: u64 = 11;
 
 // or a check that so many numbers from the offset on, of 1, 2 or 4 bytes in the image or of 2 in the index, are the value.
-const HAS1: u64 = 11;
+const HAS1: u64 = 12;
 
-const HAS2: u64 = 12;
+const HAS2: u64 = 13;
 
-const HAS4: u64 = 13;
+const HAS4: u64 = 14;
 
-const INDEX: u64 = 14;
+const INDEX: u64 = 15;
 
 // The columns of a row, in their order. The number is pages, an offset, or the bytes of a copy.
 const CASE: usize = 0;
@@ -196,6 +198,61 @@ const CASES_15_TO_16: [[u64; 7]; 23] = [
     [16, INDEX, 0, 54, 1, 0, 0],
 ];
 
+const CASE_17: [[u64; 7]; 23] = [
+    // An image whose region 2, kept back, has nine pages in blocks 0 and 1: recovery takes it, and its two blocks come first.
+    [17, ZERO, 0, 0, 0, 0, 0],
+    [17, LAY, 0, 0, 0, 0, 0],
+    [17, PUT, 0, 8, 0, 0, 2],
+    [17, PUT, 0, 16, 0, 0, 2],
+    [17, PUT, 0, 20, 0, 0, 2],
+    [17, PUT, 0, 22, 0, 0, 1],
+    [17, PUT, 0, 96, 0, 0, 9],
+    [17, PUT, 0, 512, 0, 0, 0x5a],
+    [17, PUT, 0, 1087, 0, 0, 0xa5],
+    [17, RECOVER, 0, 8704, 0, 0, 0],
+    [17, INDEX, 0, 0, 3, 0, 0],
+    [17, INDEX, 0, 6, 22, 0, 2],
+    [17, INDEX, 0, 50, 1, 0, 0],
+    [17, INDEX, 0, 52, 1, 0, 1],
+    [17, INDEX, 0, 54, 14, 0, 65535],
+    // It is nobody's to call.
+    [17, SIZE, 2, 0, 0, 8, 0],
+    [17, LOAD, 2, 0, 1, 8, 0],
+    [17, LOOK, 2, 0, 0, 0, 0],
+    [17, STORE, 2, 0, 1, 8, 0],
+    [17, GROW, 2, 1, 0, 8, 0],
+    [17, RELEASE, 2, 0, 0, 8, 0],
+    // Its first byte and its last are as they were.
+    [17, HAS1, 0, 512, 1, 0, 0x5a],
+    [17, HAS1, 0, 1087, 1, 0, 0xa5],
+];
+
+const CASE_18: [[u64; 7]; 20] = [
+    // Beside case 17's region 2 a book may have the other fourteen blocks, and not one more.
+    [18, OPEN, 0, 0, 0, 0, 16],
+    [18, GROW, 16, 113, 0, 10, 0],
+    [18, GROW, 16, 112, 0, 0, 0],
+    [18, SIZE, 16, 0, 0, 0, 112],
+    [18, GROW, 16, 1, 0, 10, 0],
+    [18, GROW, 0, 1, 0, 10, 0],
+    [18, STORE, 16, 0, 16, 0, 0],
+    [18, HAS2, 0, 8, 1, 0, 16],
+    [18, RELEASE, 16, 0, 0, 0, 0],
+    [18, GROW, 0, 113, 0, 10, 0],
+    [18, GROW, 0, 112, 0, 0, 0],
+    // Region 2 has kept its blocks, its pages and its bytes.
+    [18, HAS4, 0, 16, 1, 0, 0x00000002],
+    [18, HAS4, 0, 20, 1, 0, 0x00010002],
+    [18, HAS4, 0, 96, 1, 0, 9],
+    [18, HAS4, 0, 100, 1, 0, 0],
+    [18, HAS1, 0, 512, 1, 0, 0x5a],
+    [18, HAS1, 0, 513, 574, 0, 0],
+    [18, HAS1, 0, 1087, 1, 0, 0xa5],
+    // More than sixteen blocks of pages it may not have.
+    [18, PUT, 0, 96, 0, 0, 129],
+    [18, RECOVER, 0, 8704, 0, 6, 0],
+];
+
 // For a row that is no call, or loads or stores more bytes than there are for it.
 const ODD: u8 = 99;
 
@@ -278,6 +335,7 @@ fn call(image: &mut [u8], index: &mut [u8], row: [u64; 7]) -> Answer {
         STORE => store(image, index, row),
         LOAD => load(image, index, row),
         RECOVER => recover(image, index, row),
+        SIZE => desk::size(G, image, region(row)),
         _ => table_call(image, index, row),
     }
 }
@@ -438,6 +496,14 @@ fn cases_15_to_16(image: &mut [u8], index: &mut [u8]) {
     walk(image, index, 15, &CASES_15_TO_16);
 }
 
+fn case_17(image: &mut [u8], index: &mut [u8]) {
+    walk(image, index, 17, &CASE_17);
+}
+
+fn case_18(image: &mut [u8], index: &mut [u8]) {
+    walk(image, index, 18, &CASE_18);
+}
+
 fn main() {
     let mut image = [0u8; 8704];
     let mut index = [0u8; 82];
@@ -448,4 +514,6 @@ fn main() {
     case_13(&mut image, &mut index);
     case_14();
     cases_15_to_16(&mut image, &mut index);
+    case_17(&mut image, &mut index);
+    case_18(&mut image, &mut index);
 }

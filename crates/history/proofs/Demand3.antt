@@ -24,7 +24,7 @@ use Rattle.rules.proofs.Lines.{entered-formed, lay-accepted, recover-accepted, 
 
 module _ (g : Geometry) where
   -- what is done was not refused
-  not-refused : (c : Call) (s : State) (o : Outcome) → o ≡ outcome g c s → o .answer ≡ Done 0 → refusal g (s .image) (s .index) c ≡ 0
+  pub not-refused : (c : Call) (s : State) (o : Outcome) → o ≡ outcome g c s → o .answer ≡ Done 0 → refusal g (s .image) (s .index) c ≡ 0
   not-refused c s o e d = sym (outcome-number g c s) ∙ outcome-paper g c s .0 ∙ ap (λ o. numberOf (o .answer)) (sym e) ∙ ap numberOf d
 
   -- ---- the first moment, after laying
@@ -63,7 +63,7 @@ module _ (g : Geometry) where
           rw (ne-eqb q reclaimed d, le-leb fixedRegions q (omega arith), fr, laid-not-open g A q (omega arith))
 
   -- or after recovery
-  sound-recovered : (s : State) → refusal g (s .image) (s .index) recover ≡ 0 → Sound g (length (s .image)) (outcome g recover s .state) (found g (s .image))
+  pub sound-recovered : (s : State) → refusal g (s .image) (s .index) recover ≡ 0 → Sound g (length (s .image)) (outcome g recover s .state) (found g (s .image))
   sound-recovered s e =
       let a = recover-accepted g (s .image) (s .index) e in
       rw (recover-done g s e) (record {

@@ -159,9 +159,6 @@ pub fn header_right(g: Geometry, image: &[u8]) -> bool
 
 // ---- the rules a to e checked, each in one pass
 
-// Regions 2 to 15 are kept back.
-const FIRST_KEPT: Region = Region(2);
-
 fn low_open(g: Geometry, image: &[u8]) -> bool
     requires { ⌜ Readable g (now image) ⌝ }
     ensures { λ t. ⌜ t ≡ allBelow fixedRegions (isOpen g (front g (now (image .entry)))) ⌝ }
@@ -211,18 +208,6 @@ fn all_fit(g: Geometry, image: &[u8]) -> bool
     true
 }
 
-fn kept_empty(g: Geometry, image: &[u8]) -> bool
-    requires { ⌜ Readable g (now image) ⌝ }
-    ensures { λ t. ⌜ t ≡ allFrom 2 fixedRegions (λ r. eqb (pagesOf g (front g (now (image .entry))) r) 0) ⌝ }
-{
-    for r in FIRST_KEPT.0..paper::FIXED_REGIONS {
-        if pages(g, image, Region(r)).0 != 0 {
-            return false;
-        }
-    }
-    true
-}
-
 pub fn rule_b(g: Geometry, image: &[u8]) -> bool
     requires { ⌜ Readable g (now image) ⌝ }
     ensures { λ t. ⌜ t ≡ ruleB g (front g (now (image .entry))) ⌝ }
@@ -230,10 +215,7 @@ pub fn rule_b(g: Geometry, image: &[u8]) -> bool
     if !all_fit(g, image) {
         return false;
     }
-    if pages(g, image, paper::RECLAIMED).0 % g.pages as u64 != 0 {
-        return false;
-    }
-    kept_empty(g, image)
+    pages(g, image, paper::RECLAIMED).0 % g.pages as u64 == 0
 }
 
 // What is left of N is counted down: the sum of the needs could wrap.

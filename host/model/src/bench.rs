@@ -135,10 +135,11 @@ impl Bench {
             index: index_room.copy_of(&state.index, side()),
             buffer: buffer_room.copy_of(&buffer, side()),
         };
+        let beside_kept = View::new(BENCH, &state.image).has_kept_back();
         let model = Lent { image: &mut state.image, index: &mut state.index, buffer: &mut buffer };
         let asked = Asked { geometry, call, compared: usize::MAX };
         let outcome = judge(self.manager, &asked, ours, model)?;
-        self.tally.count(call, &outcome);
+        self.tally.count(call, beside_kept, &outcome);
         Ok(())
     }
 }

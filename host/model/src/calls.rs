@@ -1,6 +1,6 @@
 //! Calls drawn at random, mostly sensible for the image at hand, and now and then extreme.
 
-use crate::paper::{Call, Geometry, number, pages_of};
+use crate::paper::{Call, Geometry, KEPT_BACK, number, pages_of};
 use crate::random::Random;
 
 /// What an accepted call may cost: pages to zero, and bytes to copy.
@@ -45,6 +45,11 @@ impl<'a> View<'a> {
 
     pub fn need(&self, region: u64) -> u64 {
         self.g.need(u128::from(self.pages(region))) as u64
+    }
+
+    /// Whether the regions kept back have pages.
+    pub fn has_kept_back(&self) -> bool {
+        KEPT_BACK.into_iter().any(|region| self.pages(region as u64) > 0)
     }
 
     /// A book: the one in focus, or one with pages, if that is found soon.

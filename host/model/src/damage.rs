@@ -18,7 +18,7 @@ fn damage_front(g: Geometry, focus: Option<u64>, image: &mut [u8], random: &mut 
         0 => header(g, image, random),
         1..5 => entry(g, focus, image, random),
         5..8 => book(g, focus, image, random),
-        8 => move_to_kept_back(g, focus, image, random),
+        8 => kept_back(g, focus, image, random),
         _ => {
             let at = random.below(g.front_bytes() as u64) as usize;
             image[at] = random.draw() as u8;
@@ -103,17 +103,20 @@ fn book(g: Geometry, focus: Option<u64>, image: &mut [u8], random: &mut Random) 
     }
 }
 
-/// An open book's pages and blocks, given to a region that is kept back: no rule but b's third is broken.
-fn move_to_kept_back(g: Geometry, focus: Option<u64>, image: &mut [u8], random: &mut Random) {
+/// A book that is kept back: more pages than any may have; or an open book's pages and blocks, which breaks no rule where it had
+/// none.
+fn kept_back(g: Geometry, focus: Option<u64>, image: &mut [u8], random: &mut Random) {
     let from = View { g, image, focus }.some_book(random);
-    let to = random.between(2, 15);
+    let (to, most) = (random.between(2, 15), g.most_book_pages());
     let mut tables = Tables::read(g, image);
-    if let Some(pages) = tables.books[from as usize] {
+    if random.percent(50) {
+        tables.books[to as usize] = Some(random.pick(&[most + 1, most + g.pages, 1 << 32, 1 << 63, u64::MAX - 1]));
+    } else if let Some(pages) = tables.books[from as usize] {
         tables.books[to as usize] = Some(pages);
         tables.books[from as usize] = Some(0);
         tables.blocks.iter_mut().filter(|entry| entry.0 == from).for_each(|entry| entry.0 = to);
-        tables.write(g, image);
     }
+    tables.write(g, image);
 }
 
 /// An index: a slot of some book, mostly.

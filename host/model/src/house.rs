@@ -139,10 +139,11 @@ impl House {
             buffer: buffer_room.copy_of(&buffer, side()),
         };
         let image = self.model.part(bytes, Side::Front);
+        let beside_kept = View::new(HOUSE, image).has_kept_back();
         let model = Lent { image, index: &mut self.index, buffer: &mut buffer };
         let asked = Asked { geometry, call, compared: self.compared };
         let outcome = judge(self.manager, &asked, ours, model)?;
-        self.tally.count(call, &outcome);
+        self.tally.count(call, beside_kept, &outcome);
         Ok(())
     }
 

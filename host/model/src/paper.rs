@@ -106,7 +106,8 @@ macro_rules! reasons {
     };
 }
 
-// A rule's reasons begin with its letter.
+// A rule's reasons begin with its letter. Rule b holds for the books kept back as for any: they have a reason of their own so
+// that it is seen to come.
 reasons! {
     Geometry: 1,
     IndexLength: 2,
@@ -119,9 +120,9 @@ reasons! {
     TailMissing: 5,
     AFixedNotOpen: 6,
     AOpenFromCounter: 6,
+    BKeptBackTooManyPages: 6,
     BTooManyPages: 6,
     BReclaimedPart: 6,
-    BKeptBackPages: 6,
     CSum: 6,
     DRegionNotOpen: 6,
     DPositionBeyondNeed: 6,
@@ -190,6 +191,9 @@ pub fn put(bytes: &mut [u8], mut value: u64) {
 pub const NOT_OPEN: u64 = u64::MAX;
 pub const UNUSED_SLOT: u64 = 65_535;
 
+/// The regions that are kept back. They may hold pages, which came with the image.
+pub const KEPT_BACK: Range<usize> = 2..16;
+
 /// The counts and both tables of an image. A book that is not open has no page count.
 #[derive(Clone, Debug, PartialEq)]
 pub struct Tables {
@@ -244,14 +248,15 @@ impl Tables {
         self.books[region as usize].map_or(0, |pages| g.need(u128::from(pages)))
     }
 
-    /// Refusal 6: rules a to e.
+    /// Refusal 6: rules a to e, with rule b as request R-4 of document 02 has it.
     pub fn well_formed(&self, g: Geometry) -> Result<(), Why> {
         let open = |region: u64| self.books.get(region as usize).is_some_and(|book| book.is_some());
         refuse(!(0..16).all(open), Why::AFixedNotOpen)?;
         refuse((self.counter..g.entries).any(open), Why::AOpenFromCounter)?;
-        refuse(self.books.iter().flatten().any(|pages| *pages > g.most_book_pages()), Why::BTooManyPages)?;
+        let too_many = |book: &Option<u64>| book.is_some_and(|pages| pages > g.most_book_pages());
+        refuse(self.books[KEPT_BACK].iter().any(too_many), Why::BKeptBackTooManyPages)?;
+        refuse(self.books.iter().any(too_many), Why::BTooManyPages)?;
         refuse(self.books[1].is_some_and(|pages| pages % g.pages != 0), Why::BReclaimedPart)?;
-        refuse(self.books[2..16].iter().any(|book| *book != Some(0)), Why::BKeptBackPages)?;
         let needs: u128 = (0..g.entries).map(|region| self.need_of(g, region)).sum();
         refuse(needs != u128::from(self.taken), Why::CSum)?;
         let mut seen = BTreeMap::new();

@@ -1,6 +1,6 @@
-//! Well-formed tables drawn at random: books of all sizes, their blocks in any order.
+//! Well-formed tables drawn at random: books of all sizes, those kept back among them, their blocks in any order.
 
-use crate::paper::{Geometry, Tables};
+use crate::paper::{Geometry, KEPT_BACK, Tables};
 use crate::random::Random;
 
 /// What tables are to be like.
@@ -13,6 +13,10 @@ pub struct Wanted {
     pub released: u64,
     /// The most blocks that a book is given at a time.
     pub share: u64,
+    /// How many in a hundred times that is a book kept back.
+    pub kept_share: u64,
+    /// The first of those and the last.
+    pub kept_back: (u64, u64),
 }
 
 impl Wanted {
@@ -26,6 +30,8 @@ impl Wanted {
             opened: if random.percent(30) { most } else { random.between(0, few) },
             released: if random.percent(30) { 0 } else { random.between(0, 60) },
             share: if random.percent(50) { 1 + taken / 4 } else { 3 },
+            kept_share: random.pick(&[0, 0, 10, 30, 100]),
+            kept_back: random.pick(&[(2, 15), (2, 2), (15, 15)]),
         }
     }
 }
@@ -37,7 +43,7 @@ pub fn drawn(g: Geometry, wanted: &Wanted, random: &mut Random) -> Tables {
     for region in 16..tables.counter {
         tables.books[region as usize] = (!random.percent(wanted.released)).then_some(0);
     }
-    let mut held = shares(&tables, wanted.share, random);
+    let mut held = shares(&tables, wanted, random);
     let mut blocks: Vec<u64> = (0..wanted.taken).collect();
     random.shuffle(&mut blocks);
     for (region, held) in held.iter_mut().enumerate() {
@@ -54,14 +60,16 @@ pub fn drawn(g: Geometry, wanted: &Wanted, random: &mut Random) -> Tables {
 }
 
 /// How many blocks each region holds: they sum to the blocks taken.
-fn shares(tables: &Tables, most: u64, random: &mut Random) -> Vec<u64> {
-    let holds = |region: &u64| !(2..16).contains(region) && tables.books[*region as usize].is_some();
+fn shares(tables: &Tables, wanted: &Wanted, random: &mut Random) -> Vec<u64> {
+    let holds = |region: &u64| !KEPT_BACK.contains(&(*region as usize)) && tables.books[*region as usize].is_some();
     let holders: Vec<u64> = (0..tables.books.len() as u64).filter(holds).collect();
     let mut held = vec![0; tables.books.len()];
     let mut left = tables.taken;
     while left > 0 {
-        let region = random.pick(&holders);
-        let share = random.between(1, most.min(left));
+        let (first, last) = wanted.kept_back;
+        let region =
+            if random.percent(wanted.kept_share) { random.between(first, last) } else { random.pick(&holders) };
+        let share = random.between(1, wanted.share.min(left));
         held[region as usize] += share;
         left -= share;
     }

@@ -1,7 +1,8 @@
-//! The model itself, held to the bench table of document 01, case by case.
+//! The model itself, held to the bench table of document 01, case by case, and to what document 02 adds.
 
-use jaaturbal_model::paper::{BENCH, Call, Lent, Outcome, Why, answered, apart, call, number};
+use jaaturbal_model::paper::{BENCH, Call, Lent, Outcome, Tables, Why, answered, apart, call, number};
 
+#[derive(Clone)]
 struct Bench {
     image: Vec<u8>,
     index: Vec<u8>,
@@ -31,6 +32,18 @@ impl Bench {
 
     fn index_numbers(&self) -> Vec<u64> {
         self.index.chunks(2).map(number).collect()
+    }
+
+    /// An image whose region 2, kept back, has so many pages, in the first blocks. Its bytes are not zero; no index is made.
+    fn with_region_2(pages: u64) -> Bench {
+        let mut bench = Bench::new();
+        let mut tables = Tables::empty(BENCH);
+        tables.books[2] = Some(pages);
+        tables.taken = pages.div_ceil(8).min(16);
+        (0..tables.taken).for_each(|block| tables.blocks[block as usize] = (2, block));
+        tables.write(BENCH, &mut bench.image);
+        bench.image[512..].fill(7);
+        bench
     }
 
     /// Cases 1 to 3.
@@ -109,4 +122,46 @@ fn repeat_of_case_12() {
     let mut bench = Bench::third_case();
     bench.image[16..20].copy_from_slice(&[0x11, 0, 0, 0]);
     assert_eq!(bench.with(Call::Recover, &mut []).err(), Some(Why::DSamePair));
+}
+
+#[test]
+fn region_2_is_found_and_not_called() {
+    for pages in [1, 8, 9, 127, 128] {
+        let mut bench = Bench::with_region_2(pages);
+        assert_eq!(bench.make(Call::Recover), (0, 0));
+        let blocks = pages.div_ceil(8);
+        let slots: Vec<u64> = (0..blocks).chain((blocks..16).map(|_| 65_535)).collect();
+        assert_eq!(bench.index_numbers(), [vec![0; 3], vec![blocks; 22], slots].concat());
+        let before = bench.clone();
+        for made in [
+            Call::Size { region: 2 },
+            Call::Grow { region: 2, pages: 0 },
+            Call::Grow { region: 2, pages: 1 },
+            Call::Load { region: 2, offset: 0 },
+            Call::Store { region: 2, offset: 0 },
+            Call::Release { region: 2 },
+        ] {
+            assert_eq!(bench.make(made), (8, 0), "{made:?}");
+        }
+        assert!(bench.image == before.image && bench.index == before.index);
+    }
+    let too_many = Bench::with_region_2(129).with(Call::Recover, &mut []).err();
+    assert_eq!(too_many, Some(Why::BKeptBackTooManyPages));
+}
+
+/// Growth beside region 2 is refused exactly when its blocks and the grown book's exceed K. Region 2 stays as it was found.
+#[test]
+fn growth_beside_region_2() {
+    for (pages, growth) in (0..=128).flat_map(|pages| (0..=136).map(move |growth| (pages, growth))) {
+        let mut bench = Bench::with_region_2(pages);
+        assert_eq!(bench.make(Call::Recover), (0, 0));
+        assert_eq!(bench.make(Call::Open), (0, 16));
+        let exceed = u64::div_ceil(pages, 8) + u64::div_ceil(growth, 8) > 16;
+        assert_eq!(bench.make(Call::Grow { region: 16, pages: growth }), if exceed { (10, 0) } else { (0, 0) });
+        assert_eq!(bench.make(Call::Release { region: 16 }), (0, 0));
+        let blocks = u64::div_ceil(pages, 8);
+        assert!((0..blocks).all(|block| bench.entry(block) == [2, 0, block as u8, 0]));
+        assert_eq!(Tables::read(BENCH, &bench.image).books[2], Some(pages));
+        assert!(bench.image[512..512 * (1 + blocks as usize)].iter().all(|byte| *byte == 7));
+    }
 }
