@@ -6,10 +6,11 @@ use std::fs;
 use std::path::Path;
 
 use jaaturbal_bench::bytes::{self, Lie, Sheets};
-use jaaturbal_bench::manager::{GROW, LOAD, OPEN, RECOVER, RELEASE, STORE};
+use jaaturbal_bench::manager::{GROW, LOAD, OPEN, RECOVER, RECOVER_WIDEST, RELEASE, STORE};
 use jaaturbal_bench::report::{Row, page, plot, table};
 use jaaturbal_bench::tables::{self, Ledger};
 use jaaturbal_bench::{leaf, timing::Compared};
+use jaaturbal_model::paper::{HOUSE, WIDEST};
 
 const SIZES: [(usize, &str); 3] = [(16, "16 bytes"), (4_096, "4 KiB"), (1 << 20, "1 MiB")];
 
@@ -32,11 +33,15 @@ fn main() {
     }
     drop(sheets);
     for (blocks, part) in [(8_192, "a quarter of HOUSE"), (32_768, "a full HOUSE image")] {
-        let ledger = RefCell::new(Ledger::drawn(blocks));
+        let ledger = RefCell::new(Ledger::drawn(HOUSE, blocks));
         for call in [OPEN, GROW, RELEASE, RECOVER] {
             measured(call.name.into(), part.into(), tables::measured(&ledger, call));
         }
     }
+
+    let ledger = RefCell::new(Ledger::drawn(WIDEST, WIDEST.blocks));
+    let on = "a full image of 65,535 blocks".into();
+    measured(RECOVER_WIDEST.name.into(), on, tables::measured(&ledger, RECOVER_WIDEST));
 
     print!("{}", table(&rows));
     let docs = Path::new(env!("CARGO_MANIFEST_DIR")).join("../docs");

@@ -1,6 +1,7 @@
-//! The two managers, call by call, at HOUSE.
+//! The two managers, call by call, at HOUSE; and recovery at the widest geometry.
 
 use jaaturbal::calls;
+use jaaturbal_model::paper::{Call, Lent, WIDEST};
 
 use crate::plain::{self, packed};
 
@@ -56,4 +57,11 @@ pub const RECOVER: Both<TableCall> = Both {
     name: "recover",
     proved: |image, index, _| calls::recover(HOUSE, image, index),
     plain: |image, index, _| packed(plain::recover(HOUSE, image, index)),
+};
+
+/// At the widest geometry, which a host cannot name: both are told its four numbers.
+pub const RECOVER_WIDEST: Both<TableCall> = Both {
+    name: "recover",
+    proved: |image, index, _| jaaturbal_any::make(WIDEST, Call::Recover, Lent { image, index, buffer: &mut [] }),
+    plain: |image, index, _| packed(plain::recover_at(plain::WIDEST, image, index)),
 };

@@ -12,7 +12,7 @@ const NO_BLOCK: u16 = u16::MAX;
 
 /// Page bytes, pages in a block, blocks, region entries.
 #[derive(Clone, Copy)]
-struct Geometry {
+pub struct Geometry {
     page: usize,
     pages: usize,
     blocks: usize,
@@ -21,6 +21,8 @@ struct Geometry {
 
 const BENCH: Geometry = Geometry { page: 64, pages: 8, blocks: 16, entries: 24 };
 const HOUSE: Geometry = Geometry { page: 65_536, pages: 128, blocks: 32_768, entries: 32_768 };
+/// Each number at its ceiling.
+pub const WIDEST: Geometry = Geometry { page: 65_536, pages: 128, blocks: 65_535, entries: 65_536 };
 
 /// A value, or the refusal's number.
 type Answer<T> = Result<T, u64>;
@@ -262,9 +264,13 @@ pub fn lay(geometry: u32, image: &mut [u8], index: &mut [u8]) -> Answer<u64> {
     Ok(0)
 }
 
-#[inline(never)]
 pub fn recover(geometry: u32, image: &[u8], index: &mut [u8]) -> Answer<u64> {
-    let g = Geometry::numbered(geometry)?;
+    recover_at(Geometry::numbered(geometry)?, image, index)
+}
+
+/// At an allowed geometry.
+#[inline(never)]
+pub fn recover_at(g: Geometry, image: &[u8], index: &mut [u8]) -> Answer<u64> {
     let header = g.lent(image, index)?;
     checked_starts(g, image, &header)?;
     write_index(g, image, index, header.taken);

@@ -1,9 +1,9 @@
-//! The calls that work on the tables, at HOUSE: many books, the blocks of each in any order.
+//! The calls that work on the tables: many books, the blocks of each in any order.
 
 use std::cell::RefCell;
 
 use jaaturbal_model::memory::{Guarded, Side};
-use jaaturbal_model::paper::{HOUSE, Tables, apart};
+use jaaturbal_model::paper::{Geometry, Tables, apart};
 use jaaturbal_model::random::Random;
 use jaaturbal_model::tables::{Wanted, drawn};
 
@@ -22,18 +22,18 @@ pub struct Ledger {
 }
 
 impl Ledger {
-    pub fn drawn(blocks: u64) -> Ledger {
+    pub fn drawn(g: Geometry, blocks: u64) -> Ledger {
         let wanted =
             Wanted { taken: blocks, opened: blocks / 2, released: 5, share: 8, kept_share: 0, kept_back: (2, 15) };
-        let mut tables = drawn(HOUSE, &wanted, &mut Random::new(21));
-        reclaim_one(&mut tables);
-        tables.well_formed(HOUSE).expect("tables as they are drawn");
-        let full = |region: &u64| tables.books[*region as usize].is_some_and(|pages| pages == 6 * HOUSE.pages);
+        let mut tables = drawn(g, &wanted, &mut Random::new(21));
+        reclaim_one(g, &mut tables);
+        tables.well_formed(g).expect("tables as they are drawn");
+        let full = |region: &u64| tables.books[*region as usize].is_some_and(|pages| pages == 6 * g.pages);
         let book = (16..tables.counter).find(full).expect("among so many books, one of six full blocks");
-        let bytes = HOUSE.data_at(blocks);
-        let mut front = vec![0; HOUSE.front_bytes()];
-        tables.write(HOUSE, &mut front);
-        let right_index = tables.recovered(HOUSE);
+        let bytes = g.data_at(blocks);
+        let mut front = vec![0; g.front_bytes()];
+        tables.write(g, &mut front);
+        let right_index = tables.recovered(g);
         Ledger { image: Guarded::new(bytes), bytes, index: right_index.clone(), front, right_index, book: book as u32 }
     }
 
@@ -56,14 +56,14 @@ impl Ledger {
 }
 
 /// Gives the blocks of the first book that has any to region 1, so that growth finds a block there.
-fn reclaim_one(tables: &mut Tables) {
-    let region = (16..tables.counter).find(|region| tables.need_of(HOUSE, *region) > 0).expect("a book with pages");
-    let reclaimed = tables.need_of(HOUSE, 1) as u64;
-    let held = tables.need_of(HOUSE, region) as u64;
+fn reclaim_one(g: Geometry, tables: &mut Tables) {
+    let region = (16..tables.counter).find(|region| tables.need_of(g, *region) > 0).expect("a book with pages");
+    let reclaimed = tables.need_of(g, 1) as u64;
+    let held = tables.need_of(g, region) as u64;
     for entry in tables.blocks.iter_mut().filter(|entry| entry.0 == region) {
         *entry = (1, reclaimed + entry.1);
     }
-    tables.books[1] = Some((reclaimed + held) * HOUSE.pages);
+    tables.books[1] = Some((reclaimed + held) * g.pages);
     tables.books[region as usize] = None;
 }
 

@@ -1,19 +1,22 @@
 //! The plain manager gives document 01's answers: a comparison with one that does less would flatter.
 
 use jaaturbal_bench::plain;
-use jaaturbal_model::{bench, house};
+use jaaturbal_model::{desk, mapped};
+
+const BENCH: u32 = 0;
+const HOUSE: u32 = 1;
 
 #[test]
 fn bench_histories() {
-    let tally = bench::histories(plain::make, 200_000, 1);
+    let tally = desk::at_one(plain::make, BENCH, 200_000, 1);
     print!("{tally}");
     assert_eq!(tally.missing(), Vec::<String>::new());
 }
 
 #[test]
 fn house_images() {
-    let tally = house::small(plain::make, 16, 2);
+    let tally = mapped::small(plain::make, HOUSE, 16, 2);
     print!("{tally}");
-    let tally = house::full(plain::make, 16, 3);
+    let tally = mapped::full(plain::make, HOUSE, 16, 3);
     print!("{tally}");
 }

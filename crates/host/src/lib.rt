@@ -32,7 +32,7 @@ fn geometry_of(n: u32) -> Geometry
 }
 
 // A refusal's value is 0 and a value's refusal is 0, so nothing is added.
-fn pack(a: Answer) -> u64
+pub fn pack(a: Answer) -> u64
     ensures { λ n. ⌜ n ≡ packed a ⌝ }
 {
     match a {

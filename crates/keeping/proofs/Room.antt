@@ -9,7 +9,7 @@ use native.Mathlib.Decide.{decLe}
 use borrow.Author.Tests.{le-leb, lt-leb}
 use lib.Dec.{leb}
 use Rattle.paper.specs.declared.Geometry.{Geometry}
-use Rattle.paper.specs.Geometry.{reclaimed, Allowed, need}
+use Rattle.paper.specs.Geometry.{mostPages, mostBlocks, reclaimed, Allowed, need}
 use Rattle.paper.specs.Image.{taken, pagesOf, isOpen, needOf}
 use Rattle.paper.proofs.Arithmetic.{need-enough, need-below}
 use Rattle.rules.specs.Facts.{Formed}
@@ -35,9 +35,9 @@ module _ (g : Geometry) (pos : 1 ≤ g .pages) (old x : ℕ) where
           more (no l) = omega arith
           more (yes l) = absurd (omega (arith, need-enough g pos (old + n), mul-le-mul-right (g .pages) l))
 
--- the numbers are small
+-- the numbers are small: each part of the sum is at most B
 pub room-small : (g : Geometry) → Allowed g → (cap : ℕ) → cap ≤ g .blocks → (t : List ℕ) → Formed g cap t → (r : ℕ) → isOpen g t r ≡ true
-    → need g (pagesOf g t r) + (needOf g t reclaimed + (cap - taken g t)) ≤ 98304
+    → need g (pagesOf g t r) + (needOf g t reclaimed + (cap - taken g t)) ≤ 3 * mostBlocks
 room-small g A cap most t F r o =
     rw (← need-open g t r o)
     (omega (
@@ -48,5 +48,5 @@ room-small g A cap most t F r o =
       A .blocks-most,
     ))
 
-pub product-small : (g : Geometry) → Allowed g → (k : ℕ) → k ≤ 98304 → k * g .pages ≤ 12582912
+pub product-small : (g : Geometry) → Allowed g → (k : ℕ) → k ≤ 3 * mostBlocks → k * g .pages ≤ 3 * mostBlocks * mostPages
 product-small g A k h = mul-le-mul h (A .pages-most)

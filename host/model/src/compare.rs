@@ -1,22 +1,28 @@
 //! One call made twice, by a manager and by the model, and everything that can be seen afterwards compared.
 
+use crate::geometries::Named;
 use crate::paper::{self, Call, Lent, Manager, Outcome};
 
 /// A call to judge.
-pub struct Asked {
-    pub geometry: u32,
+pub struct Asked<Name> {
+    pub geometry: Name,
     pub call: Call,
     /// How many bytes of the image, from its first, are compared. Data bytes that the model touched are in any case.
     pub compared: usize,
 }
 
 /// Makes the call on both sides, which start out alike, and says where they differ, if they do.
-pub fn judge(manager: Manager, asked: &Asked, ours: Lent<'_>, model: Lent<'_>) -> Result<Outcome, String> {
+pub fn judge<Name: Named>(
+    manager: Manager<Name>,
+    asked: &Asked<Name>,
+    ours: Lent<'_>,
+    model: Lent<'_>,
+) -> Result<Outcome, String> {
     let Asked { geometry, call, compared } = *asked;
     let lent = Lent { image: &mut *ours.image, index: &mut *ours.index, buffer: &mut *ours.buffer };
     let answer = manager(geometry, call, lent);
     let lent = Lent { image: &mut *model.image, index: &mut *model.index, buffer: &mut *model.buffer };
-    let outcome = paper::call(geometry, call, lent);
+    let outcome = paper::call(geometry.into(), call, lent);
     let mut faults = Vec::new();
     let expected = paper::answered(&outcome);
     if answer != expected {
@@ -34,7 +40,7 @@ pub fn judge(manager: Manager, asked: &Asked, ours: Lent<'_>, model: Lent<'_>) -
         return Ok(outcome);
     }
     let why = outcome.err().map(|why| format!(" ({why:?})")).unwrap_or_default();
-    Err(format!("{call:?} at geometry {geometry}{why}: {}", faults.join("; ")))
+    Err(format!("{call:?} at geometry {geometry:?}{why}: {}", faults.join("; ")))
 }
 
 fn shown(answer: u64) -> String {

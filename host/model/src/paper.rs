@@ -15,14 +15,29 @@ pub struct Geometry {
 pub const BENCH: Geometry = Geometry { page: 64, pages: 8, blocks: 16, entries: 24 };
 pub const HOUSE: Geometry = Geometry { page: 65_536, pages: 128, blocks: 32_768, entries: 32_768 };
 
-impl Geometry {
-    /// The geometry that a host names by this number.
-    pub fn numbered(number: u32) -> Option<Geometry> {
+/// Each number at its ceiling.
+pub const WIDEST: Geometry = Geometry { page: 65_536, pages: 128, blocks: 65_535, entries: 65_536 };
+
+/// The geometry that a host names by this number. One that names none gives a geometry that is not allowed.
+impl From<u32> for Geometry {
+    fn from(number: u32) -> Geometry {
         match number {
-            0 => Some(BENCH),
-            1 => Some(HOUSE),
-            _ => None,
+            0 => BENCH,
+            1 => HOUSE,
+            _ => Geometry { page: 0, pages: 0, blocks: 0, entries: 0 },
         }
+    }
+}
+
+impl Geometry {
+    /// Whether it is allowed, with the ceilings of blocks and region entries as request R-7 of document 02 has them. The sum
+    /// and the product are made of numbers within their bounds, so that neither wraps.
+    pub fn allowed(self) -> bool {
+        (1..=65_536).contains(&self.page)
+            && (1..=128).contains(&self.pages)
+            && (1..=65_535).contains(&self.blocks)
+            && (18..=65_536).contains(&self.entries)
+            && 16 + 4 * self.blocks + 8 * self.entries <= self.block_bytes()
     }
 
     pub fn block_bytes(self) -> u64 {
@@ -86,8 +101,8 @@ pub struct Lent<'a> {
     pub buffer: &'a mut [u8],
 }
 
-/// A book manager: geometry by number, a call, what is lent; answers refusal × 2^56 + value.
-pub type Manager = fn(u32, Call, Lent<'_>) -> u64;
+/// A book manager: a geometry as it is named to this one, a call, what is lent; answers refusal × 2^56 + value.
+pub type Manager<Name> = fn(Name, Call, Lent<'_>) -> u64;
 
 macro_rules! reasons {
     ($($name:ident: $number:literal,)*) => {
@@ -298,8 +313,8 @@ pub fn pages_of(g: Geometry, image: &[u8], region: u64) -> Option<u64> {
 
 // The table of refusals, row by row.
 
-fn check_1(geometry: u32) -> Result<Geometry, Why> {
-    Geometry::numbered(geometry).ok_or(Why::Geometry)
+fn check_1(g: Geometry) -> Result<(), Why> {
+    refuse(!g.allowed(), Why::Geometry)
 }
 
 fn check_2(g: Geometry, index: &[u8]) -> Result<(), Why> {
@@ -397,22 +412,22 @@ fn check_12(image: &[u8]) -> Result<(), Why> {
 }
 
 /// Makes the call on the paper's terms.
-pub fn call(geometry: u32, call: Call, lent: Lent<'_>) -> Outcome {
+pub fn call(g: Geometry, call: Call, lent: Lent<'_>) -> Outcome {
     let Lent { image, index, buffer } = lent;
     match call {
-        Call::Lay => lay(geometry, image, index),
-        Call::Open => open(geometry, image, index),
-        Call::Grow { region, pages } => grow(geometry, image, index, region, pages),
-        Call::Load { region, offset } => load(geometry, image, index, region, offset, buffer),
-        Call::Store { region, offset } => store(geometry, image, index, region, offset, buffer),
-        Call::Size { region } => size(geometry, image, region),
-        Call::Release { region } => release(geometry, image, index, region),
-        Call::Recover => recover(geometry, image, index),
+        Call::Lay => lay(g, image, index),
+        Call::Open => open(g, image, index),
+        Call::Grow { region, pages } => grow(g, image, index, region, pages),
+        Call::Load { region, offset } => load(g, image, index, region, offset, buffer),
+        Call::Store { region, offset } => store(g, image, index, region, offset, buffer),
+        Call::Size { region } => size(g, image, region),
+        Call::Release { region } => release(g, image, index, region),
+        Call::Recover => recover(g, image, index),
     }
 }
 
-fn lay(geometry: u32, image: &mut [u8], index: &mut [u8]) -> Outcome {
-    let g = check_1(geometry)?;
+fn lay(g: Geometry, image: &mut [u8], index: &mut [u8]) -> Outcome {
+    check_1(g)?;
     check_2(g, index)?;
     check_3(g, image)?;
     check_12(image)?;
@@ -423,28 +438,27 @@ fn lay(geometry: u32, image: &mut [u8], index: &mut [u8]) -> Outcome {
 }
 
 /// Checks 1 to 6, as recovery makes them.
-fn checks_1_to_6(geometry: u32, image: &[u8], index: &[u8]) -> Result<(Geometry, Tables), Why> {
-    let g = check_1(geometry)?;
+fn checks_1_to_6(g: Geometry, image: &[u8], index: &[u8]) -> Result<Tables, Why> {
+    check_1(g)?;
     check_2(g, index)?;
     checks_3_to_5(g, image)?;
-    let tables = check_6(g, image)?;
-    Ok((g, tables))
+    check_6(g, image)
 }
 
-fn checks_1_to_7(geometry: u32, image: &[u8], index: &[u8]) -> Result<(Geometry, Tables), Why> {
-    let (g, tables) = checks_1_to_6(geometry, image, index)?;
+fn checks_1_to_7(g: Geometry, image: &[u8], index: &[u8]) -> Result<Tables, Why> {
+    let tables = checks_1_to_6(g, image, index)?;
     check_7(g, &tables, index)?;
-    Ok((g, tables))
+    Ok(tables)
 }
 
-fn recover(geometry: u32, image: &[u8], index: &mut [u8]) -> Outcome {
-    let (g, tables) = checks_1_to_6(geometry, image, index)?;
+fn recover(g: Geometry, image: &[u8], index: &mut [u8]) -> Outcome {
+    let tables = checks_1_to_6(g, image, index)?;
     index.copy_from_slice(&tables.recovered(g));
     done(0)
 }
 
-fn open(geometry: u32, image: &mut [u8], index: &mut [u8]) -> Outcome {
-    let (g, mut tables) = checks_1_to_7(geometry, image, index)?;
+fn open(g: Geometry, image: &mut [u8], index: &mut [u8]) -> Outcome {
+    let mut tables = checks_1_to_7(g, image, index)?;
     let region = if tables.counter < g.entries - 1 {
         tables.counter += 1;
         tables.counter - 1
@@ -458,8 +472,8 @@ fn open(geometry: u32, image: &mut [u8], index: &mut [u8]) -> Outcome {
     done(region)
 }
 
-fn grow(geometry: u32, image: &mut [u8], index: &mut [u8], region: u32, pages: u64) -> Outcome {
-    let (g, mut tables) = checks_1_to_7(geometry, image, index)?;
+fn grow(g: Geometry, image: &mut [u8], index: &mut [u8], region: u32, pages: u64) -> Outcome {
+    let mut tables = checks_1_to_7(g, image, index)?;
     let old = check_8(g, image, region)?;
     let region = u64::from(region);
     let held = g.need(u128::from(old));
@@ -497,14 +511,14 @@ fn take_block(g: Geometry, tables: &mut Tables) -> u64 {
 
 /// The checks of load and store, in their order; then the stretches.
 fn checks_of_bytes(
-    geometry: u32,
+    g: Geometry,
     image: &[u8],
     index: &[u8],
     region: u32,
     offset: u64,
     bytes: usize,
 ) -> Result<Vec<Stretch>, Why> {
-    let g = check_1(geometry)?;
+    check_1(g)?;
     check_2(g, index)?;
     checks_3_to_5(g, image)?;
     let pages = check_8(g, image, region)?;
@@ -513,32 +527,32 @@ fn checks_of_bytes(
     check_7_touched(g, image, index, u64::from(region), offset, bytes as u64)
 }
 
-fn load(geometry: u32, image: &[u8], index: &[u8], region: u32, offset: u64, buffer: &mut [u8]) -> Outcome {
-    let stretches = checks_of_bytes(geometry, image, index, region, offset, buffer.len())?;
+fn load(g: Geometry, image: &[u8], index: &[u8], region: u32, offset: u64, buffer: &mut [u8]) -> Outcome {
+    let stretches = checks_of_bytes(g, image, index, region, offset, buffer.len())?;
     for stretch in &stretches {
         buffer[stretch.buffer.clone()].copy_from_slice(&image[stretch.image.clone()]);
     }
     Ok(Done { value: 0, touched: stretches.into_iter().map(|stretch| stretch.image).collect() })
 }
 
-fn store(geometry: u32, image: &mut [u8], index: &[u8], region: u32, offset: u64, bytes: &[u8]) -> Outcome {
-    let stretches = checks_of_bytes(geometry, image, index, region, offset, bytes.len())?;
+fn store(g: Geometry, image: &mut [u8], index: &[u8], region: u32, offset: u64, bytes: &[u8]) -> Outcome {
+    let stretches = checks_of_bytes(g, image, index, region, offset, bytes.len())?;
     for stretch in &stretches {
         image[stretch.image.clone()].copy_from_slice(&bytes[stretch.buffer.clone()]);
     }
     Ok(Done { value: 0, touched: stretches.into_iter().map(|stretch| stretch.image).collect() })
 }
 
-fn size(geometry: u32, image: &[u8], region: u32) -> Outcome {
-    let g = check_1(geometry)?;
+fn size(g: Geometry, image: &[u8], region: u32) -> Outcome {
+    check_1(g)?;
     checks_3_to_5(g, image)?;
     let pages = check_8(g, image, region)?;
     check_6_book(g, pages)?;
     done(pages)
 }
 
-fn release(geometry: u32, image: &mut [u8], index: &mut [u8], region: u32) -> Outcome {
-    let (g, mut tables) = checks_1_to_7(geometry, image, index)?;
+fn release(g: Geometry, image: &mut [u8], index: &mut [u8], region: u32) -> Outcome {
+    let mut tables = checks_1_to_7(g, image, index)?;
     refuse(region == 0, Why::ReleaseAnonymous)?;
     check_8(g, image, region)?;
     let region = u64::from(region);

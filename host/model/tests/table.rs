@@ -1,6 +1,8 @@
 //! The model itself, held to the bench table of document 01, case by case, and to what document 02 adds.
 
-use jaaturbal_model::paper::{BENCH, Call, Lent, Outcome, Tables, Why, answered, apart, call, number};
+use jaaturbal_model::paper::{
+    BENCH, Call, Geometry, HOUSE, Lent, Outcome, Tables, WIDEST, Why, answered, apart, call, number,
+};
 
 #[derive(Clone)]
 struct Bench {
@@ -14,7 +16,7 @@ impl Bench {
     }
 
     fn with(&mut self, made: Call, buffer: &mut [u8]) -> Outcome {
-        call(0, made, Lent { image: &mut self.image, index: &mut self.index, buffer })
+        call(BENCH, made, Lent { image: &mut self.image, index: &mut self.index, buffer })
     }
 
     /// Refusal and value.
@@ -164,4 +166,24 @@ fn growth_beside_region_2() {
         assert_eq!(Tables::read(BENCH, &bench.image).books[2], Some(pages));
         assert!(bench.image[512..512 * (1 + blocks as usize)].iter().all(|byte| *byte == 7));
     }
+}
+
+#[test]
+fn ceilings_of_request_7() {
+    assert!(BENCH.allowed() && HOUSE.allowed() && WIDEST.allowed());
+    for beyond in [
+        Geometry { page: 65_537, ..WIDEST },
+        Geometry { pages: 129, ..WIDEST },
+        Geometry { blocks: 65_536, ..WIDEST },
+        Geometry { entries: 65_537, ..WIDEST },
+        Geometry { page: u64::MAX, pages: u64::MAX, blocks: u64::MAX, entries: u64::MAX },
+        Geometry { page: 1 << 32, pages: 1 << 32, blocks: 1 << 62, entries: 1 << 61 },
+    ] {
+        assert!(!beyond.allowed(), "{beyond:?}");
+    }
+    // The smallest tables have 164 bytes.
+    let smallest = Geometry { page: 2, pages: 82, blocks: 1, entries: 18 };
+    assert!(smallest.allowed());
+    assert!(!Geometry { pages: 81, ..smallest }.allowed());
+    assert!(!Geometry { entries: 17, ..smallest }.allowed());
 }

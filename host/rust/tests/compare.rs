@@ -1,9 +1,15 @@
 //! The proved calls against document 01's model: every answer, and every byte of image, index and buffer.
 
 use jaaturbal::calls;
-use jaaturbal_model::paper::{Call, Lent};
+use jaaturbal_model::paper::{Call, Geometry, Lent, WIDEST};
 use jaaturbal_model::tally::Tally;
-use jaaturbal_model::{bench, house};
+use jaaturbal_model::{desk, mapped};
+
+const BENCH: u32 = 0;
+const HOUSE: u32 = 1;
+
+/// The widest tables, in a reserve that is hardly larger: every block can be mapped.
+const WIDE_TABLES: Geometry = Geometry { page: 6_145, ..WIDEST };
 
 fn proved(geometry: u32, call: Call, lent: Lent<'_>) -> u64 {
     let Lent { image, index, buffer } = lent;
@@ -26,12 +32,20 @@ fn report(title: &str, tally: &Tally) {
 
 #[test]
 fn bench_histories() {
-    report("BENCH", &bench::histories(proved, 1_000_000, 1));
+    report("BENCH", &desk::at_one(proved, BENCH, 1_000_000, 1));
 }
 
 #[test]
 fn house_images() {
-    let mut tally = house::small(proved, 40, 2);
-    tally.absorb(house::full(proved, 60, 3));
+    let mut tally = mapped::small(proved, HOUSE, 40, 2);
+    tally.absorb(mapped::full(proved, HOUSE, 60, 3));
     report("HOUSE", &tally);
+}
+
+#[test]
+fn any_geometry() {
+    let mut tally = desk::at_each(jaaturbal_any::make, 20_000, 4);
+    tally.absorb(mapped::small(jaaturbal_any::make, WIDEST, 4, 5));
+    tally.absorb(mapped::full(jaaturbal_any::make, WIDE_TABLES, 12, 6));
+    report("any geometry", &tally);
 }
