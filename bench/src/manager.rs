@@ -11,7 +11,7 @@ const HOUSE: u32 = 1;
 /// A load or a store.
 pub type ByteCall = fn(image: &mut [u8], index: &[u8], region: u32, offset: u64, buffer: &mut [u8]) -> u64;
 
-/// A call that works on the tables. Open and recover make nothing of the region.
+/// A call that works on the tables. Lay, open and recover make nothing of the region.
 pub type TableCall = fn(image: &mut [u8], index: &mut [u8], region: u32) -> u64;
 
 /// A call as both make it.
@@ -32,6 +32,19 @@ pub const STORE: Both<ByteCall> = Both {
     name: "store",
     proved: |image, index, region, offset, bytes| calls::store(HOUSE, image, index, region, offset, bytes),
     plain: |image, index, region, offset, bytes| packed(plain::store(HOUSE, image, index, region, offset, bytes)),
+};
+
+/// Over a header that is zeroed first, on both sides alike.
+pub const LAY: Both<TableCall> = Both {
+    name: "lay",
+    proved: |image, index, _| {
+        image[..16].fill(0);
+        calls::lay(HOUSE, image, index)
+    },
+    plain: |image, index, _| {
+        image[..16].fill(0);
+        packed(plain::lay(HOUSE, image, index))
+    },
 };
 
 pub const OPEN: Both<TableCall> = Both {

@@ -91,8 +91,13 @@ impl Geometry {
         u16_at(index, self.slots_at() + 2 * slot)
     }
 
-    /// Refusals 2 to 5: the blocks taken, the counter and the capacity.
-    fn header(self, image: &[u8]) -> Answer<Header> {
+    /// The rest of the reserve, between the tables and its end.
+    fn unused(self) -> Range<usize> {
+        self.regions_at() + 8 * self.entries..self.block_bytes()
+    }
+
+    /// Refusals 3 and 4: the blocks taken, the counter and the capacity.
+    fn head(self, image: &[u8]) -> Answer<Header> {
         if image.len() < self.block_bytes() {
             return Err(3);
         }
@@ -102,17 +107,21 @@ impl Geometry {
             return Err(4);
         }
         let capacity = self.blocks.min(image.len() / self.block_bytes() - 1);
-        if capacity < taken {
-            return Err(5);
-        }
         Ok(Header { taken, counter, capacity })
     }
 
+    /// Refusals 3 to 5.
+    fn header(self, image: &[u8]) -> Answer<Header> {
+        self.head(image)?.whole()
+    }
+
     fn lent(self, image: &[u8], index: &[u8]) -> Answer<Header> {
-        if index.len() != self.index_bytes() {
-            return Err(2);
-        }
+        self.right_length(index)?;
         self.header(image)
+    }
+
+    fn right_length(self, index: &[u8]) -> Answer<()> {
+        if index.len() == self.index_bytes() { Ok(()) } else { Err(2) }
     }
 }
 
@@ -120,6 +129,18 @@ struct Header {
     taken: usize,
     counter: usize,
     capacity: usize,
+}
+
+impl Header {
+    fn whole(self) -> Answer<Header> {
+        if self.capacity < self.taken { Err(5) } else { Ok(self) }
+    }
+}
+
+/// Whether every byte is zero. With no exit before the end the loop becomes vector steps.
+#[inline(never)]
+pub fn all_zero(bytes: &[u8]) -> bool {
+    bytes.iter().fold(0, |set, byte| set | byte) == 0
 }
 
 /// One pass over the region table: rules a, b and c. `each_start` sees where each region's slots start, the end last.
@@ -260,6 +281,7 @@ pub fn lay(geometry: u32, image: &mut [u8], index: &mut [u8]) -> Answer<u64> {
     let (fixed, rest) = image[g.regions_at()..g.regions_at() + 8 * g.entries].split_at_mut(8 * FIXED_REGIONS);
     fixed.fill(0);
     rest.fill(u8::MAX);
+    image[g.unused()].fill(0);
     write_index(g, image, index, 0);
     Ok(0)
 }
@@ -271,7 +293,12 @@ pub fn recover(geometry: u32, image: &[u8], index: &mut [u8]) -> Answer<u64> {
 /// At an allowed geometry.
 #[inline(never)]
 pub fn recover_at(g: Geometry, image: &[u8], index: &mut [u8]) -> Answer<u64> {
-    let header = g.lent(image, index)?;
+    g.right_length(index)?;
+    let header = g.head(image)?;
+    if !all_zero(&image[g.unused()]) {
+        return Err(16);
+    }
+    let header = header.whole()?;
     checked_starts(g, image, &header)?;
     write_index(g, image, index, header.taken);
     Ok(0)

@@ -34,7 +34,10 @@ impl Ledger {
         let mut front = vec![0; g.front_bytes()];
         tables.write(g, &mut front);
         let right_index = tables.recovered(g);
-        Ledger { image: Guarded::new(bytes), bytes, index: right_index.clone(), front, right_index, book: book as u32 }
+        let mut image = Guarded::new(bytes);
+        // The rest of the reserve is memory of its own, as in an image that was laid, and not a page of zeros over and over.
+        image.part(bytes, Side::Front)[g.unused()].fill(0);
+        Ledger { image, bytes, index: right_index.clone(), front, right_index, book: book as u32 }
     }
 
     /// Puts tables and index back to what they were drawn as.

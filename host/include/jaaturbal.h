@@ -56,11 +56,13 @@ enum book_refusal {
     BOOK_BEYOND_BOOK = 9,            /* offset plus length beyond the book's bytes */
     BOOK_NO_BLOCKS_LEFT = 10,        /* too few blocks are left for the growth */
     BOOK_NO_REGION_LEFT = 11,        /* every region is open */
-    BOOK_NOT_BLANK = 12              /* lay, and one of the image's first 16 bytes is not zero */
+    BOOK_NOT_BLANK = 12,             /* lay, and one of the image's first 16 bytes is not zero */
+    BOOK_NEWER_RELEASE = 16          /* recover, and a byte between the tables and the end of the first block is not zero: an image
+                                      * of a newer release */
 };
 
-/* Writes the header and tables of an image with no books but those that are always there, and its index. Data blocks keep
- * their bytes. Value 0. Checks 1, 2, 3, 12. */
+/* Writes the header and tables of an image with no books but those that are always there, zeros in the rest of its first block,
+ * and its index. Data blocks keep their bytes. Value 0. Checks 1, 2, 3, 12. */
 uint64_t book_lay(uint32_t geometry, uint8_t *image, size_t image_bytes, uint8_t *index, size_t index_bytes);
 
 /* Opens an empty book. Its region is the value. Checks 1 to 7, 11. */
@@ -85,7 +87,8 @@ uint64_t book_size(uint32_t geometry, const uint8_t *image, size_t image_bytes, 
 uint64_t book_release(uint32_t geometry, uint8_t *image, size_t image_bytes, uint8_t *index, size_t index_bytes,
                       uint32_t region);
 
-/* Writes the whole index from the image. What the index held before has no influence. Value 0. Checks 1 to 6. */
+/* Writes the whole index from the image. What the index held before has no influence. Value 0. Checks 1 to 4, 16, 5,
+ * 6. */
 uint64_t book_recover(uint32_t geometry, const uint8_t *image, size_t image_bytes, uint8_t *index, size_t index_bytes);
 
 #ifdef __cplusplus

@@ -1,4 +1,4 @@
-// The bench table through the compiled calls: a line for each case, with six of the house after them.
+// The bench table through the compiled calls: a line for each case, with seven of the house after them.
 // The table is walked row by row, and a case holds where each of its rows does.
 use libc::STDOUT_FILENO;
 use paper::Answer;
@@ -253,6 +253,31 @@ const CASE_18: [[u64; 7]; 20] = [
     [18, RECOVER, 0, 8704, 0, 6, 0],
 ];
 
+const CASE_19: [[u64; 7]; 20] = [
+    // Lay makes the rest of the reserve zero, bytes 272 to 511, and not the byte after it.
+    [19, ZERO, 0, 0, 0, 0, 0],
+    [19, PUT, 0, 272, 0, 0, 7],
+    [19, PUT, 0, 511, 0, 0, 7],
+    [19, PUT, 0, 512, 0, 0, 7],
+    [19, LAY, 0, 0, 0, 0, 0],
+    [19, HAS1, 0, 272, 240, 0, 0],
+    [19, HAS1, 0, 512, 1, 0, 7],
+    [19, RECOVER, 0, 8704, 0, 0, 0],
+    // Recovery refuses the first of them and the last, before 5; other calls do not look at them.
+    [19, PUT, 0, 272, 0, 0, 1],
+    [19, RECOVER, 0, 8704, 0, 16, 0],
+    [19, PUT, 0, 272, 0, 0, 0],
+    [19, PUT, 0, 511, 0, 0, 1],
+    [19, RECOVER, 0, 8704, 0, 16, 0],
+    [19, GROW, 0, 1, 0, 0, 0],
+    [19, RECOVER, 0, 512, 0, 16, 0],
+    [19, SIZE, 0, 0, 0, 0, 1],
+    [19, HAS1, 0, 511, 1, 0, 1],
+    [19, PUT, 0, 511, 0, 0, 0],
+    [19, RECOVER, 0, 512, 0, 5, 0],
+    [19, RECOVER, 0, 8704, 0, 0, 0],
+];
+
 // For a row that is no call, or loads or stores more bytes than there are for it.
 const ODD: u8 = 99;
 
@@ -504,6 +529,10 @@ fn case_18(image: &mut [u8], index: &mut [u8]) {
     walk(image, index, 18, &CASE_18);
 }
 
+fn case_19(image: &mut [u8], index: &mut [u8]) {
+    walk(image, index, 19, &CASE_19);
+}
+
 fn main() {
     let mut image = [0u8; 8704];
     let mut index = [0u8; 82];
@@ -516,4 +545,5 @@ fn main() {
     cases_15_to_16(&mut image, &mut index);
     case_17(&mut image, &mut index);
     case_18(&mut image, &mut index);
+    case_19(&mut image, &mut index);
 }

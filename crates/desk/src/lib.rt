@@ -40,6 +40,8 @@ pub const NO_REGION: u8 = 11;
 
 pub const NOT_BLANK: u8 = 12;
 
+pub const NEWER: u8 = 16;
+
 // ---- shared refusals: 0 where none applies
 
 // 1, 3, 4.

@@ -9,12 +9,11 @@ use lib.ListN.{length}
 use Rattle.paper.specs.declared.Geometry.{Geometry}
 use Rattle.paper.specs.declared.Answer.the-variants.{Done}
 use Rattle.paper.specs.Geometry.{fixedRegions, reclaimed, Allowed, blockBytes, capacity}
-use Rattle.paper.specs.Image.{front, rest}
+use Rattle.paper.specs.Image.{front, rest, blanked}
 use Rattle.paper.specs.Calls.{Call, lay, recover, laid}
 use Rattle.paper.specs.Refusals.{refusal}
 use Rattle.paper.specs.Outcomes.{numberOf, State, Outcome, outcome}
-use Rattle.rules.proofs.Cells.{front-joined, length-joined}
-use Rattle.rules.proofs.Laid.{length-laid, laid-formed, laid-index, laid-fixed, laid-open, laid-not-open}
+use Rattle.rules.proofs.Laid.{laid-formed, laid-index, laid-fixed, laid-open, laid-not-open, laid-front, laid-length, laid-blank}
 use Rattle.rules.proofs.Outcomes.{outcome-number, outcome-paper}
 use Rattle.keeping.proofs.Books.{book-empty}
 use Rattle.history.specs.History.{Books, Exchange, Moment, fresh, noted, after, Demand3, Run, told, Demand3Seen, found, FromRecovered}
@@ -37,6 +36,7 @@ module _ (g : Geometry) where
       recovered = rw fr (sym (laid-index g A));
     };
     as-long = len;
+    blank = laid-blank g A (s .image) long;
     agree = λ q. agree q (ℕ-discrete q reclaimed) (decLt q fixedRegions);
   })
     where
@@ -47,15 +47,15 @@ module _ (g : Geometry) where
       long = lay-accepted g (s .image) (s .index) e .2
 
       x : List ℕ
-      x = laid g ++ rest g (s .image)
+      x = laid g ++ rest g (blanked g (s .image))
 
-      fr : front g (laid g ++ rest g (s .image)) ≡ laid g
-      fr = front-joined g (laid g) (s .image) (length-laid g A)
+      fr : front g (laid g ++ rest g (blanked g (s .image))) ≡ laid g
+      fr = laid-front g A (s .image) long
 
-      len : length (laid g ++ rest g (s .image)) ≡ length (s .image)
-      len = length-joined g (laid g) (s .image) (length-laid g A) (omega (arith, long, A .reserve))
+      len : length (laid g ++ rest g (blanked g (s .image))) ≡ length (s .image)
+      len = laid-length g A (s .image) long
 
-      agree : (q : ℕ) → Dec (q ≡ reclaimed) → Dec (q < fixedRegions) → fresh g q ≡ found g (laid g ++ rest g (s .image)) q
+      agree : (q : ℕ) → Dec (q ≡ reclaimed) → Dec (q < fixedRegions) → fresh g q ≡ found g (laid g ++ rest g (blanked g (s .image))) q
       agree q (yes d) _ = rw d
       agree q (no d) (yes l) =
           rw (ne-eqb q reclaimed d, lt-leb fixedRegions q l, fr, laid-open g A q l, book-empty g (laid g) x q (laid-fixed g A q l))
@@ -74,6 +74,7 @@ module _ (g : Geometry) where
           recovered = refl;
         };
         as-long = refl;
+        blank = a .2;
         agree = λ q. refl;
       })
 

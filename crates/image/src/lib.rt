@@ -7,7 +7,7 @@ ghost use Rattle.laws.specs.Folds.{allBelow, allFrom};
 ghost use Rattle.paper.specs.Geometry.{fixedRegions, noRegion};
 ghost use Rattle.paper.specs.Image.{front, stamp, taken, counter, owner, place, names, pagesOf, isOpen, needOf, setTaken, setCounter, setEntry, setPages, setNotOpen};
 ghost use Rattle.paper.specs.WellFormed.{ruleA, fits, ruleB, ruleC, named, ruleE};
-ghost use Rattle.paper.specs.Refusals.{headerRight};
+ghost use Rattle.paper.specs.Refusals.{headerRight, unusedBlank};
 ghost use Rattle.rules.specs.Facts.{Readable, fronted};
 use paper::Block;
 use paper::Geometry;
@@ -155,6 +155,16 @@ pub fn header_right(g: Geometry, image: &[u8]) -> bool
         return false;
     }
     c.0 <= g.no_region().0
+}
+
+// The bytes between the tables and the end of the reserve are zero.
+pub fn unused_blank(g: Geometry, image: &[u8]) -> bool
+    requires { ⌜ Readable g (now image) ⌝ }
+    ensures { λ t. ⌜ t ≡ unusedBlank g (now (image .entry)) ⌝ }
+{
+    let from = g.front_bytes();
+    let to = g.block_bytes();
+    numbers::all_zero(&image[from..to])
 }
 
 // ---- the rules a to e checked, each in one pass

@@ -6,7 +6,7 @@ ghost use lib.ListN.{length};
 ghost use Rattle.laws.specs.Folds.{joinBelow};
 ghost use Rattle.laws.specs.Bytes.{splice, put};
 ghost use Rattle.paper.specs.Geometry.{headerBytes, version, fixedRegions, noRegion, sizeAt};
-ghost use Rattle.paper.specs.Image.{coded, writtenHeader, entryRow, sizeRow};
+ghost use Rattle.paper.specs.Image.{blanked, coded, writtenHeader, entryRow, sizeRow};
 ghost use Rattle.paper.specs.Index.{emptyIndex};
 ghost use Rattle.paper.specs.Calls.{lay, laidSize, laid};
 ghost use Rattle.paper.specs.Refusals.{blank, refusal};
@@ -80,6 +80,25 @@ fn write_tables(g: Geometry, image: &mut [u8])
     write_regions(g, image);
 }
 
+// ---- the rest of the reserve
+
+// Zeros between the tables and the end of the reserve.
+fn blank_unused(g: Geometry, image: &mut [u8])
+    requires { ⌜ Readable g (now image) ⌝ }
+    ensures { λ _. ⌜ now (image .exit) ≡ blanked g (now (image .entry)) ⌝ }
+{
+    numbers::zero_part(image, g.front_bytes(), g.block_bytes());
+}
+
+// The zeros come first: cut short after them, the image is still one to lay.
+fn write_reserve(g: Geometry, image: &mut [u8])
+    requires { ⌜ Readable g (now image) ⌝ }
+    ensures { λ _. ⌜ now (image .exit) ≡ fronted g (laid g) (blanked g (now (image .entry))) ⌝ }
+{
+    blank_unused(g, image);
+    write_tables(g, image);
+}
+
 // ---- the empty index
 
 fn write_empty_index(g: Geometry, index: &mut [u8])
@@ -122,7 +141,7 @@ fn lay_refusal(g: Geometry, image: &[u8], index: &[u8]) -> u8
     0
 }
 
-// ---- Lay: header and both tables, and the empty index. Data blocks keep their bytes
+// ---- Lay: header and both tables, zeros in the rest of the reserve, and the empty index. Data blocks keep their bytes
 
 pub fn lay(g: Geometry, image: &mut [u8], index: &mut [u8]) -> Answer
     ensures { λ a. ⌜ gives a [] (lent (now (image .exit)) (now (index .exit))) ≡ outcome g lay (lent (now (image .entry)) (now (index .entry))) ⌝ }
@@ -131,7 +150,7 @@ pub fn lay(g: Geometry, image: &mut [u8], index: &mut [u8]) -> Answer
     if no != 0 {
         return Answer::Refused(no);
     }
-    write_tables(g, image);
+    write_reserve(g, image);
     write_empty_index(g, index);
     Answer::Done(0)
 }

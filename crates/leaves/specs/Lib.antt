@@ -1,2 +1,3 @@
--- What the exported leaf answers and leaves.
+-- What the exported leaves answer and leave.
 pub mod Copy
+pub mod Look

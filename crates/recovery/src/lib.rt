@@ -45,13 +45,16 @@ fn in_order(g: Geometry, image: &[u8]) -> bool
     index::alone_all(g, image)
 }
 
-// 1 to 6.
+// 1 to 4, 16, 5, 6.
 fn recover_refusal(g: Geometry, image: &[u8], index: &[u8]) -> u8
     ensures { λ k. ⌜ k ≡ refusal g (now (image .entry)) (now (index .entry)) recover ⌝ }
 {
     let no = desk::indexed_head(g, image, index);
     if no != 0 {
         return no;
+    }
+    if !image::unused_blank(g, image) {
+        return desk::NEWER;
     }
     if desk::tail_missing(g, image) {
         return desk::TAIL_MISSING;

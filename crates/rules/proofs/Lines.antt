@@ -8,21 +8,24 @@ use mathlib.Core.List.{List, [], _∷_, _++_}
 use native.Mathlib.Omega.{arith}
 use borrow.Author.Tests.{eqb-true, eqb-false, eq-eqb, ne-eqb, ltb-false, le-ltb, leb-true, leb-false, le-leb, lt-leb, not-true, not-false}
 use lib.Dec.{eqb, leb}
-use lib.ListN.{length}
+use lib.ListN.{getD, length}
+use lib.Seq.{getD-take}
 use Rattle.laws.proofs.Tests.{clash, and-parts, and-true, or-false, or-parts-false, not-of-true}
+use Rattle.laws.proofs.Folds.{all-ext}
 use Rattle.laws.proofs.Lists.{same-refl, same-eq}
 use Rattle.laws.specs.Bytes.{same}
 use Rattle.paper.specs.declared.Geometry.{Geometry}
 use Rattle.paper.specs.declared.Answer.the-variants.{Done, Refused}
-use Rattle.paper.specs.Geometry.{fixedRegions, reclaimed, blockBytes, allowed, Allowed, noRegion, capacity, mostBookPages, indexBytes}
-use Rattle.paper.specs.Image.{front, rest, stamp, taken, counter, pagesOf, needOf}
+use Rattle.paper.specs.Geometry.{headerBytes, fixedRegions, reclaimed, blockBytes, allowed, Allowed, noRegion, capacity, mostBookPages, frontBytes, indexBytes}
+use Rattle.paper.specs.Image.{front, rest, blanked, stamp, taken, counter, pagesOf, needOf}
 use Rattle.paper.specs.WellFormed.{inOrder}
 use Rattle.paper.specs.Index.{indexOf, emptyIndex, blockIn}
 use Rattle.paper.specs.Calls.{Call, lay, «open», grow, load, store, look, size, release, recover, laid, nextRegion, opened, loaded, stored, newBlocks, grown, lookBytes, released}
-use Rattle.paper.specs.Refusals.{Check, first, headerRight, touchedRight, usable, blank, no1, no2, no3, no4, no5, no6, no6of, no7, no7of, no8, no8release, no9, no10, no11, no12, to4, to5, to7, ofBook, checks, refusal, wellFormed}
+use Rattle.paper.specs.Refusals.{Check, first, headerRight, touchedRight, usable, blank, unusedBlank, no1, no2, no3, no4, no5, no6, no6of, no7, no7of, no8, no8release, no9, no10, no11, no12, no16, to4, to5, to7, ofBook, checks, refusal, wellFormed}
 use Rattle.paper.specs.Outcomes.{numberOf, valueOf, State, lent, gives, tabled, accepted, buffer, outcome}
 use Rattle.paper.proofs.Arithmetic.{allowed-facts, facts-allowed}
 use Rattle.rules.specs.Facts.{Rules, Header, Formed, Readable, Headed, Whole, Entered, Ordered, Reads}
+use Rattle.rules.specs.Unused.{inspects}
 use Rattle.rules.specs.Lines.{headNo, wholeNo, bookNo, indexedHeadNo, enteredNo, orderedNo, readNo}
 use Rattle.rules.proofs.Cells.{stamp-version, length-front}
 use Rattle.rules.proofs.Facts.{order-rules, rules-order}
@@ -107,7 +110,11 @@ module _ (g : Geometry) (image index : List ℕ) where
   ask12 : Passes (no12 g image index) (blank g image ≡ true)
   ask12 = record { fine = λ b. not-of-true b; shows = λ e. not-false _ e }
 
--- ---- checks 3 to 6: an image is well-formed exactly where it is long enough for the reserve and its front is in order
+  ask16 : Passes (no16 g image index) (unusedBlank g image ≡ true)
+  ask16 = record { fine = λ b. not-of-true b; shows = λ e. not-false _ e }
+
+-- ---- checks 3, 4, 16, 5, 6: an image is well-formed exactly where it is long enough for the reserve, its front is in order and the rest of its
+-- reserve blank
 module _ (g : Geometry) (image : List ℕ) (A : Allowed g) where
   formed : Headed g image → taken g (front g image) ≤ capacity g (length image) → Rules g (front g image)
       → Formed g (capacity g (length image)) (front g image)
@@ -118,20 +125,23 @@ module _ (g : Geometry) (image : List ℕ) (A : Allowed g) where
     rules = R;
   }
 
-  pub formed-image : wellFormed g image ≡ true → (blockBytes g ≤ length image) × Formed g (capacity g (length image)) (front g image)
+  pub formed-image : wellFormed g image ≡ true
+      → (blockBytes g ≤ length image) × (unusedBlank g image ≡ true) × Formed g (capacity g (length image)) (front g image)
   unfolding wellFormed
   formed-image e =
       let f3 = shown (ask3 g image []) _ (omega arith) (eqb-true _ _ e) in
       let f4 = shown (ask4 g image []) _ (omega arith) (f3 .1) in
-      let f5 = shown (ask5 g image []) _ (omega arith) (f4 .1) in
+      let f16 = shown (ask16 g image []) _ (omega arith) (f4 .1) in
+      let f5 = shown (ask5 g image []) _ (omega arith) (f16 .1) in
       let f6 = shown (ask6 g image []) _ (omega arith) (f5 .1) in
-      (f3 .0, formed (record { readable = record { allowed = A; long = f3 .0 }; header = f4 .0 }) (f5 .0) (f6 .0))
+      (f3 .0, f16 .0, formed (record { readable = record { allowed = A; long = f3 .0 }; header = f4 .0 }) (f5 .0) (f6 .0))
 
-  pub image-formed : blockBytes g ≤ length image → Formed g (capacity g (length image)) (front g image) → wellFormed g image ≡ true
+  pub image-formed : blockBytes g ≤ length image → unusedBlank g image ≡ true → Formed g (capacity g (length image)) (front g image)
+      → wellFormed g image ≡ true
   unfolding wellFormed
-  image-formed long F =
+  image-formed long b F =
       eq-eqb _ _
-      (pass (ask3 g image []) _ long ∙ pass (ask4 g image []) _ (F .header) ∙ pass (ask5 g image []) _ (F .tail)
+      (pass (ask3 g image []) _ long ∙ pass (ask4 g image []) _ (F .header) ∙ pass (ask16 g image []) _ b ∙ pass (ask5 g image []) _ (F .tail)
       ∙ pass (ask6 g image []) _ (F .rules) ∙ first-nil)
 
 -- ---- the beginnings without an index
@@ -232,14 +242,17 @@ module _ (g : Geometry) (image index : List ℕ) where
     unfolding indexedHeadNo headNo
     indexed-head-on e = pass (ask1 g image index) _ A ∙ pass (ask2 g image index) _ e ∙ sym (pass (ask1 g image []) _ A)
 
-  pub indexed-head-shown : indexedHeadNo g image index ≡ 0 → Headed g image × (length index ≡ indexBytes g)
-  unfolding indexedHeadNo
-  indexed-head-shown e =
+  shown4 : (later : List Check) → first (to4 g image index later) ≡ 0 → Headed g image × (length index ≡ indexBytes g) × (first later ≡ 0)
+  shown4 later e =
       let f1 = shown (ask1 g image index) _ (omega arith) e in
       let f2 = shown (ask2 g image index) _ (omega arith) (f1 .1) in
       let f3 = shown (ask3 g image index) _ (omega arith) (f2 .1) in
       let f4 = shown (ask4 g image index) _ (omega arith) (f3 .1) in
-      (record { readable = record { allowed = f1 .0; long = f3 .0 }; header = f4 .0 }, f2 .0)
+      (record { readable = record { allowed = f1 .0; long = f3 .0 }; header = f4 .0 }, f2 .0, f4 .1)
+
+  pub indexed-head-shown : indexedHeadNo g image index ≡ 0 → Headed g image × (length index ≡ indexBytes g)
+  unfolding indexedHeadNo
+  indexed-head-shown e = let p = shown4 [] e in (p .0, p .1)
 
   pass4 : Headed g image → length index ≡ indexBytes g → (later : List Check) → first (to4 g image index later) ≡ first later
   pass4 H i later =
@@ -265,12 +278,9 @@ module _ (g : Geometry) (image index : List ℕ) where
 
   shown5 : (later : List Check) → first (to5 g image index later) ≡ 0 → Entered g image index × (first later ≡ 0)
   shown5 later e =
-      let f1 = shown (ask1 g image index) _ (omega arith) e in
-      let f2 = shown (ask2 g image index) _ (omega arith) (f1 .1) in
-      let f3 = shown (ask3 g image index) _ (omega arith) (f2 .1) in
-      let f4 = shown (ask4 g image index) _ (omega arith) (f3 .1) in
-      let f5 = shown (ask5 g image index) _ (omega arith) (f4 .1) in
-      (record { geometry = f1 .0; indexed = f2 .0; long = f3 .0; header = f4 .0; tail = f5 .0 }, f5 .1)
+      let p = shown4 (no5 g image index ∷ later) e in
+      let f5 = shown (ask5 g image index) _ (omega arith) (p .2) in
+      (whole-entered (record { headed = p .0; tail = f5 .0 }) (p .1), f5 .1)
 
   pub entered-shown : enteredNo g image index ≡ 0 → Entered g image index
   unfolding enteredNo
@@ -380,29 +390,44 @@ module _ (g : Geometry) (image index : List ℕ) where
             pass (ask1 g image index) _ A ∙ pass (ask2 g image index) _ i ∙ pass (ask3 g image index) _ long
             ∙ pass (ask12 g image index) _ b ∙ first-nil
 
-  -- ---- recover: 1 to 6
-  pub recover-accepted : refusal g image index recover ≡ 0 → Entered g image index × Rules g (front g image)
+  -- ---- recover: 1 to 4, 16, 5, 6
+  abbrev recovering : List Check
+  recovering = no16 g image index ∷ no5 g image index ∷ no6 g image index ∷ []
+
+  pub recover-accepted : refusal g image index recover ≡ 0 → Entered g image index × Rules g (front g image) × (unusedBlank g image ≡ true)
   unfolding checks
   recover-accepted e =
-      let p = shown5 g image index (no6 g image index ∷ []) e in
-      (p .0, shown (ask6 g image index) _ (omega arith) (p .1) .0)
+      let p = shown4 g image index recovering e in
+      let f16 = shown (ask16 g image index) _ (omega arith) (p .2) in
+      let f5 = shown (ask5 g image index) _ (omega arith) (f16 .1) in
+      let f6 = shown (ask6 g image index) _ (omega arith) (f5 .1) in
+      (whole-entered g image index (record { headed = p .0; tail = f5 .0 }) (p .1), f6 .0, f16 .0)
 
   pub recover-stop : (k : ℕ) → k ≡ indexedHeadNo g image index → k ≢ 0 → refusal g image index recover ≡ k
   unfolding indexedHeadNo checks
-  recover-stop k e ne = first-stop (front4 g image index) (no5 g image index ∷ no6 g image index ∷ []) refl k (sym e) ne
+  recover-stop k e ne = first-stop (front4 g image index) recovering refl k (sym e) ne
 
-  pub recover-5 : Headed g image → length index ≡ indexBytes g → capacity g (length image) < taken g (front g image) → refusal g image index recover ≡ 5
-  unfolding checks
-  recover-5 H i l = pass4 g image index H i (no5 g image index ∷ no6 g image index ∷ []) ∙ halt (ask5 g image index) _ (λ h. omega arith)
-
-  module _ (E : Entered g image index) where
-    pub recover-6 : inOrder g (front g image) ≡ false → refusal g image index recover ≡ 6
+  module _ (H : Headed g image) (i : length index ≡ indexBytes g) where
+    pub recover-16 : unusedBlank g image ≡ false → refusal g image index recover ≡ 16
     unfolding checks
-    recover-6 e = pass5 g image index E (no6 g image index ∷ []) ∙ halt (ask6 g image index) _ (λ R. clash (inOrder g tables) (rules-order g tables R) e)
+    recover-16 b = pass4 g image index H i recovering ∙ halt (ask16 g image index) _ (λ h. clash (unusedBlank g image) h b)
+
+    pub recover-5 : unusedBlank g image ≡ true → capacity g (length image) < taken g (front g image) → refusal g image index recover ≡ 5
+    unfolding checks
+    recover-5 b l = pass4 g image index H i recovering ∙ pass (ask16 g image index) _ b ∙ halt (ask5 g image index) _ (λ h. omega arith)
+
+  module _ (E : Entered g image index) (b : unusedBlank g image ≡ true) where
+    on-6 : refusal g image index recover ≡ first (no6 g image index ∷ [])
+    unfolding checks
+    on-6 =
+        pass4 g image index (entered-whole g image index E .headed) (E .indexed) recovering ∙ pass (ask16 g image index) _ b
+        ∙ pass (ask5 g image index) _ (E .tail)
+
+    pub recover-6 : inOrder g (front g image) ≡ false → refusal g image index recover ≡ 6
+    recover-6 e = on-6 ∙ halt (ask6 g image index) _ (λ R. clash (inOrder g tables) (rules-order g tables R) e)
 
     pub recover-0 : Rules g (front g image) → refusal g image index recover ≡ 0
-    unfolding checks
-    recover-0 R = pass5 g image index E (no6 g image index ∷ []) ∙ pass (ask6 g image index) _ R ∙ first-nil
+    recover-0 R = on-6 ∙ pass (ask6 g image index) _ R ∙ first-nil
 
   -- the geometry and the index's length once right, it is refused as the image alone says
   pub recover-formed : Allowed g → length index ≡ indexBytes g → (refusal g image index recover ≡ 0) ↔ (wellFormed g image ≡ true)
@@ -593,11 +618,32 @@ module _ (g : Geometry) (image index : List ℕ) where
           shown (ask6of g image [] r) _ (omega arith) (f8 .1) .0,
         )
 
--- the checks of a load see the image's front and length, and the index
+-- lay's look at the header is one at the front
+blank-front : (g : Geometry) (image : List ℕ) → blank g image ≡ blank g (front g image)
+unfolding blank
+blank-front g image =
+    all-ext headerBytes (λ i. eqb (getD image i 0) 0) (λ i. eqb (getD (front g image) i 0) 0)
+    (λ i h. rw (getD-take (frontBytes g) image i 0 (omega arith)))
+
+-- the checks of every call but recovery see of the image its front and its length
+pub line-same : (g : Geometry) (image later index : List ℕ) (c : Call) → inspects c ≡ false → length image ≡ length later → front g image ≡ front g later
+    → refusal g later index c ≡ refusal g image index c
+unfolding checks
+line-same g image later index lay ne l f =
+    let same : blank g later ≡ blank g image = blank-front g later ∙ rw (← f) (sym (blank-front g image)) in
+    rw (l, same)
+line-same g image later index «open» ne l f = rw (l, f)
+line-same g image later index (grow r n) ne l f = rw (l, f)
+line-same g image later index (load r o b) ne l f = rw (l, f)
+line-same g image later index (store r o b) ne l f = rw (l, f)
+line-same g image later index (look r o) ne l f = rw (l, f)
+line-same g image later index (size r) ne l f = rw (l, f)
+line-same g image later index (release r) ne l f = rw (l, f)
+line-same g image later index recover ne l f = clash true refl ne
+
 pub load-same : (g : Geometry) (image later index : List ℕ) (r o : ℕ) (xs : List ℕ) → length image ≡ length later → front g image ≡ front g later
     → refusal g later index (load r o xs) ≡ refusal g image index (load r o xs)
-unfolding checks
-load-same g image later index r o xs l f = rw (l, f)
+load-same g image later index r o xs l f = line-same g image later index (load r o xs) refl l f
 
 -- the checks of size see the image alone
 pub size-alone : (g : Geometry) (image index other : List ℕ) (r : ℕ) → refusal g image index (size r) ≡ refusal g image other (size r)
@@ -645,7 +691,7 @@ module _ (g : Geometry) (c : Call) (s : State) where
   refused k e ne = rw (e, ne-eqb k 0 ne)
 
 module _ (g : Geometry) (s : State) where
-  pub lay-done : refusal g (s .image) (s .index) lay ≡ 0 → outcome g lay s ≡ gives (Done 0) [] (lent (laid g ++ rest g (s .image)) (emptyIndex g))
+  pub lay-done : refusal g (s .image) (s .index) lay ≡ 0 → outcome g lay s ≡ gives (Done 0) [] (lent (laid g ++ rest g (blanked g (s .image))) (emptyIndex g))
   unfolding accepted
   lay-done e = outcome-done g lay s e
 

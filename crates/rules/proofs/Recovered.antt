@@ -3,23 +3,25 @@ use Prim.Native.Nat.{ℕ, _+_, _≤_}
 use mathlib.Core.Bool.{true}
 use mathlib.Core.Logic.{_↔_}
 use mathlib.Core.Path.{_≡_, refl, sym, _∙_}
-use mathlib.Core.List.{List}
+use mathlib.Core.List.{List, []}
 use native.Mathlib.Omega.{arith}
 use native.Mathlib.Decide.{ℕ-discrete}
 use lib.ListN.{length}
 use Rattle.laws.proofs.Folds.{sum-none, sum-more}
 use Rattle.paper.specs.declared.Geometry.{Geometry}
+use Rattle.paper.specs.declared.Answer.the-variants.{Done}
 use Rattle.paper.specs.Geometry.{Allowed, indexBytes}
-use Rattle.paper.specs.Image.{front, taken, owner, place, needOf}
+use Rattle.paper.specs.Image.{front, blanked, taken, owner, place, needOf}
 use Rattle.paper.specs.Index.{indexOf}
 use Rattle.paper.specs.Calls.{recover}
-use Rattle.paper.specs.Refusals.{refusal, wellFormed}
-use Rattle.paper.specs.Outcomes.{State, lent, outcome}
-use Rattle.rules.specs.Facts.{Rules}
+use Rattle.paper.specs.Refusals.{unusedBlank, refusal, wellFormed}
+use Rattle.paper.specs.Outcomes.{State, lent, gives, outcome}
+use Rattle.rules.specs.Facts.{Rules, Entered, Ordered}
 use Rattle.rules.proofs.Counting.{block-below, block-owner, block-place, block-at}
 use Rattle.rules.proofs.Index.{start-read, block-read, spare-read, stands-once}
 use Rattle.rules.proofs.Outcomes.{outcome-number}
-use Rattle.rules.proofs.Lines.{recover-accepted, recover-formed, recover-same, refused, recover-done}
+use Rattle.rules.proofs.Parts.{front-blanked, unused-blanked, length-blanked, blank-exactly}
+use Rattle.rules.proofs.Lines.{recover-accepted, recover-0, recover-formed, recover-same, refused, recover-done}
 use Rattle.rules.specs.Recovered.{Recovered}
 
 -- ---- the index of tables that keep the rules
@@ -79,3 +81,30 @@ module _ (g : Geometry) (image index other : List ℕ) (same-length : length ind
   same-outcome done =
       let e = sym (outcome-number g recover (lent image index)) ∙ done in
       recover-done g (lent image index) e ∙ sym (recover-done g (lent image other) (sym (recover-same g image index other same-length) ∙ e))
+
+-- ---- "recovery without this check": refusal 7, and the index after an accepted call, mean recovery of the image with the rest of its reserve blank
+pub recovers-blanked : (g : Geometry) (image index : List ℕ) → Ordered g image index → (junk : List ℕ) → length junk ≡ indexBytes g
+    → outcome g recover (lent (blanked g image) junk) ≡ gives (Done 0) [] (lent (blanked g image) index)
+recovers-blanked g image index O junk i =
+    recover-done g (lent x junk) (recover-0 g x junk entered blank (rw fr (O .formed .rules))) ∙ rw (fr, ← O .recovered)
+  where
+    x : List ℕ
+    x = blanked g image
+
+    fr : front g (blanked g image) ≡ front g image
+    fr = front-blanked g (O .geometry) image (O .long)
+
+    len : length (blanked g image) ≡ length image
+    len = length-blanked g (O .geometry) image (O .long)
+
+    blank : unusedBlank g (blanked g image) ≡ true
+    blank = blank-exactly g (O .geometry) x (omega (arith, len, O .long)) .1 (unused-blanked g (O .geometry) image (O .long))
+
+    entered : Entered g (blanked g image) junk
+    entered = record {
+      geometry = O .geometry;
+      indexed = i;
+      long = omega (arith, len, O .long);
+      header = rw fr (O .formed .header);
+      tail = rw (fr, len) (O .formed .tail);
+    }

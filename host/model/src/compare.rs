@@ -7,7 +7,7 @@ use crate::paper::{self, Call, Lent, Manager, Outcome};
 pub struct Asked<Name> {
     pub geometry: Name,
     pub call: Call,
-    /// How many bytes of the image, from its first, are compared. Data bytes that the model touched are in any case.
+    /// How many bytes of the image, from its first, are compared. Those past the tables that the model touched are in any case.
     pub compared: usize,
 }
 

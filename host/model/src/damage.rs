@@ -14,11 +14,16 @@ pub fn anything(g: Geometry, focus: Option<u64>, image: &mut [u8], index: &mut [
 }
 
 fn damage_front(g: Geometry, focus: Option<u64>, image: &mut [u8], random: &mut Random) {
-    match random.below(10) {
+    match random.below(11) {
         0 => header(g, image, random),
         1..5 => entry(g, focus, image, random),
         5..8 => book(g, focus, image, random),
         8 => kept_back(g, focus, image, random),
+        9 => {
+            if let Some(at) = unused(g, random).filter(|at| *at < image.len()) {
+                image[at] ^= random.between(1, 255) as u8;
+            }
+        }
         _ => {
             let at = random.below(g.front_bytes() as u64) as usize;
             image[at] = random.draw() as u8;
@@ -117,6 +122,14 @@ fn kept_back(g: Geometry, focus: Option<u64>, image: &mut [u8], random: &mut Ran
         tables.blocks.iter_mut().filter(|entry| entry.0 == from).for_each(|entry| entry.0 = to);
     }
     tables.write(g, image);
+}
+
+/// A byte between the tables and the end of the reserve, where there is one: the first, the last, or any.
+pub fn unused(g: Geometry, random: &mut Random) -> Option<usize> {
+    let bytes = g.unused().len();
+    let drawn = random.below(bytes.max(1) as u64) as usize;
+    let place = random.pick(&[0, bytes.saturating_sub(1), drawn]);
+    g.unused().nth(place)
 }
 
 /// An index: a slot of some book, mostly.

@@ -125,6 +125,9 @@ impl<Name: Named> Desk<Name> {
         if state.image.len() as u64 >= g.block_bytes() {
             let wanted = Wanted::any(g, g.capacity(state.image.len()), &mut self.random);
             drawn(g, &wanted, &mut self.random).write(g, &mut state.image);
+            if self.random.percent(95) {
+                state.image[g.unused()].fill(0);
+            }
         }
     }
 

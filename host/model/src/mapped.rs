@@ -112,7 +112,7 @@ impl<Name: Named> Mapped<Name> {
         Ok(())
     }
 
-    /// A call on damaged tables or a damaged index, or with lengths that are wrong; what was damaged is then as before.
+    /// A call on a damaged reserve or a damaged index, or with lengths that are wrong; what was damaged is then as before.
     fn trial(&mut self) -> Result<(), String> {
         let g = self.g;
         let front = g.front_bytes();
@@ -125,6 +125,8 @@ impl<Name: Named> Mapped<Name> {
         }
         let damaged = self.model.part(front, Side::Front);
         self.ours.part(front, Side::Front).copy_from_slice(damaged);
+        let unused = damage::unused(g, &mut self.random).filter(|_| self.random.percent(25));
+        self.set_byte(unused, 1);
         let mut bytes = self.bytes;
         if self.random.percent(20) {
             bytes = damage::cut_image(&View::new(g, self.model.part(bytes, Side::Front)), &mut self.random);
@@ -133,10 +135,19 @@ impl<Name: Named> Mapped<Name> {
             self.index.resize(damage::index_bytes(g, &mut self.random), 0);
         }
         self.step(focus, false, bytes)?;
+        self.set_byte(unused, 0);
         self.index = saved_index;
         self.ours.part(front, Side::Front).copy_from_slice(&saved);
         self.model.part(front, Side::Front).copy_from_slice(&saved);
         Ok(())
+    }
+
+    /// The same byte in both copies, where a place is given.
+    fn set_byte(&mut self, at: Option<usize>, byte: u8) {
+        if let Some(at) = at {
+            self.ours.part(self.bytes, Side::Front)[at] = byte;
+            self.model.part(self.bytes, Side::Front)[at] = byte;
+        }
     }
 
     fn step(&mut self, focus: Option<u64>, early: bool, bytes: usize) -> Result<(), String> {

@@ -49,6 +49,11 @@ impl Geometry {
         (16 + 4 * self.blocks + 8 * self.entries) as usize
     }
 
+    /// The rest of the reserve, between the tables and its end.
+    pub fn unused(self) -> Range<usize> {
+        self.front_bytes()..self.block_bytes() as usize
+    }
+
     pub fn index_bytes(self) -> usize {
         (2 * (self.entries + 1 + self.blocks)) as usize
     }
@@ -121,7 +126,7 @@ macro_rules! reasons {
     };
 }
 
-// A rule's reasons begin with its letter. Rule b holds for the books kept back as for any: they have a reason of their own so
+// A rule's reasons begin with its letter. Those of 16 tell where the first byte stands that is not zero: at either end or between. Rule b holds for the books kept back as for any: they have a reason of their own so
 // that it is seen to come.
 reasons! {
     Geometry: 1,
@@ -156,9 +161,12 @@ reasons! {
     NoBlocksLeft: 10,
     NoRegionLeft: 11,
     NotBlank: 12,
+    UnusedFirst: 16,
+    UnusedLast: 16,
+    UnusedBetween: 16,
 }
 
-/// What an accepted call answers, and the data bytes of the image that it read or wrote.
+/// What an accepted call answers, and the bytes past the tables that it read or wrote.
 pub struct Done {
     pub value: u64,
     pub touched: Vec<Range<usize>>,
@@ -338,6 +346,17 @@ fn check_5(g: Geometry, image: &[u8]) -> Result<(), Why> {
     refuse(g.capacity(image.len()) < number(&image[8..10]), Why::TailMissing)
 }
 
+/// Request R-9 of document 02.
+fn check_16(g: Geometry, image: &[u8]) -> Result<(), Why> {
+    let unused = &image[g.unused()];
+    match unused.iter().position(|byte| *byte != 0) {
+        None => Ok(()),
+        Some(0) => Err(Why::UnusedFirst),
+        Some(place) if place + 1 == unused.len() => Err(Why::UnusedLast),
+        Some(_) => Err(Why::UnusedBetween),
+    }
+}
+
 fn checks_3_to_5(g: Geometry, image: &[u8]) -> Result<(), Why> {
     check_3(g, image)?;
     check_4(g, image)?;
@@ -433,26 +452,28 @@ fn lay(g: Geometry, image: &mut [u8], index: &mut [u8]) -> Outcome {
     check_12(image)?;
     let tables = Tables::empty(g);
     tables.write(g, image);
+    image[g.unused()].fill(0);
     index.copy_from_slice(&tables.recovered(g));
-    done(0)
-}
-
-/// Checks 1 to 6, as recovery makes them.
-fn checks_1_to_6(g: Geometry, image: &[u8], index: &[u8]) -> Result<Tables, Why> {
-    check_1(g)?;
-    check_2(g, index)?;
-    checks_3_to_5(g, image)?;
-    check_6(g, image)
+    Ok(Done { value: 0, touched: vec![g.unused()] })
 }
 
 fn checks_1_to_7(g: Geometry, image: &[u8], index: &[u8]) -> Result<Tables, Why> {
-    let tables = checks_1_to_6(g, image, index)?;
+    check_1(g)?;
+    check_2(g, index)?;
+    checks_3_to_5(g, image)?;
+    let tables = check_6(g, image)?;
     check_7(g, &tables, index)?;
     Ok(tables)
 }
 
 fn recover(g: Geometry, image: &[u8], index: &mut [u8]) -> Outcome {
-    let tables = checks_1_to_6(g, image, index)?;
+    check_1(g)?;
+    check_2(g, index)?;
+    check_3(g, image)?;
+    check_4(g, image)?;
+    check_16(g, image)?;
+    check_5(g, image)?;
+    let tables = check_6(g, image)?;
     index.copy_from_slice(&tables.recovered(g));
     done(0)
 }

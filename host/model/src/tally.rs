@@ -16,7 +16,7 @@ const REACHABLE: [&[u64]; 8] = [
     &[0, 1, 2, 3, 4, 5, 8, 6, 9, 7],
     &[0, 1, 3, 4, 5, 8, 6],
     &[0, 1, 2, 3, 4, 5, 6, 7, 8],
-    &[0, 1, 2, 3, 4, 5, 6],
+    &[0, 1, 2, 3, 4, 16, 5, 6],
 ];
 
 /// Those that must also come on an image with pages in the regions kept back: such pages are counted, and are nobody's to call.
@@ -35,8 +35,11 @@ fn row(call: Call) -> usize {
     }
 }
 
+/// One more than the largest refusal.
+const ANSWERS: usize = 17;
+
 /// Calls by answer.
-type Cells = [[u64; 13]; 8];
+type Cells = [[u64; ANSWERS]; 8];
 
 /// Which of these answers were never given.
 fn never<'a>(cells: &'a Cells, answers: &'a [&[u64]; 8]) -> impl Iterator<Item = String> + 'a {
@@ -107,7 +110,7 @@ impl Tally {
 impl fmt::Display for Tally {
     fn fmt(&self, out: &mut fmt::Formatter<'_>) -> fmt::Result {
         write!(out, "{:8}", "")?;
-        (0..13).try_for_each(|number| write!(out, "{number:>9}"))?;
+        (0..ANSWERS).try_for_each(|number| write!(out, "{number:>9}"))?;
         lines(out, &self.cells, &REACHABLE)?;
         write!(out, "\nbeside pages kept back")?;
         lines(out, &self.beside_kept, &BESIDE_KEPT)?;

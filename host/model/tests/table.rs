@@ -168,6 +168,43 @@ fn growth_beside_region_2() {
     }
 }
 
+/// Between the tables and the end of the reserve lay leaves zeros, and recovery refuses a byte that is none, wherever it stands. No other
+/// call looks at it.
+#[test]
+fn unused_reserve_of_request_9() {
+    let mut bench = Bench::new();
+    bench.image[16..].fill(7);
+    assert_eq!(bench.make(Call::Lay), (0, 0));
+    assert!(BENCH.unused() == (272..512) && bench.image[272..512] == [0; 240]);
+    assert!(bench.image[512..].iter().all(|byte| *byte == 7));
+    assert_eq!(bench.make(Call::Recover), (0, 0));
+    for at in 272..512 {
+        let mut spoilt = bench.clone();
+        spoilt.image[at] = 1;
+        assert_eq!(spoilt.make(Call::Recover), (16, 0), "byte {at}");
+        assert_eq!(spoilt.make(Call::Open), (0, 16));
+        assert_eq!(spoilt.make(Call::Grow { region: 16, pages: 9 }), (0, 0));
+        assert_eq!(spoilt.image[at], 1);
+        // 16 comes before 5, and after 4.
+        spoilt.image.truncate(512);
+        assert_eq!(spoilt.make(Call::Recover), (16, 0));
+        spoilt.image[4] = 1;
+        assert_eq!(spoilt.make(Call::Recover), (4, 0));
+    }
+}
+
+/// Tables that end where the reserve does leave nothing to look at.
+#[test]
+fn no_unused_reserve() {
+    let g = Geometry { page: 164, pages: 1, blocks: 1, entries: 18 };
+    let (mut image, mut index) = (vec![7; 328], vec![7; g.index_bytes()]);
+    image[..16].fill(0);
+    for made in [Call::Lay, Call::Recover] {
+        assert!(call(g, made, Lent { image: &mut image, index: &mut index, buffer: &mut [] }).is_ok());
+    }
+    assert!(g.unused().is_empty() && image[164..] == [7; 164]);
+}
+
 #[test]
 fn ceilings_of_request_7() {
     assert!(BENCH.allowed() && HOUSE.allowed() && WIDEST.allowed());

@@ -70,7 +70,7 @@ pub const VALUE_BITS: u32 = 56;
 pub fn answer(answered: u64) -> Result<u64, Refusal> {
     match (answered >> VALUE_BITS) as u32 {
         0 => Ok(answered),
-        number => Err(Refusal::numbered(number).expect("the calls refuse with the numbers 1 to 12")),
+        number => Err(Refusal::numbered(number).expect("a refusal of the table")),
     }
 }
 

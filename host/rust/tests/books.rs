@@ -74,7 +74,8 @@ fn answers_are_taken_apart() {
 
 #[test]
 fn refusals_have_words() {
-    let words: Vec<String> = (1..=12).map(|number| Refusal::numbered(number).unwrap().to_string()).collect();
+    let words: Vec<String> =
+        (1..=12).chain([16]).map(|number| Refusal::numbered(number).unwrap().to_string()).collect();
     assert!(words.iter().all(|words| words.len() > 10));
     assert_eq!((Refusal::numbered(0), Refusal::numbered(13)), (None, None));
 }

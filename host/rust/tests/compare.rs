@@ -37,7 +37,7 @@ fn bench_histories() {
 
 #[test]
 fn house_images() {
-    let mut tally = mapped::small(proved, HOUSE, 40, 2);
+    let mut tally = mapped::small(proved, HOUSE, 60, 2);
     tally.absorb(mapped::full(proved, HOUSE, 60, 3));
     report("HOUSE", &tally);
 }

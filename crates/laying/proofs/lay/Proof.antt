@@ -8,15 +8,15 @@ use borrow.Author.Needs.{needs}
 use Rattle.laying.proofs.lay.Statement.{statement}
 use Rattle.laying.proofs.lay.Tie as tie
 
--- ---- the places, each from a later one: the start, no refusal, the tables written
+-- ---- the places, each from a later one: the start, no refusal, the reserve written
 abbrev at-start : tie.After-lay-refusal → tie.Start
 at-start c = c .before .before .before .before .before
 
-abbrev at-accepted : tie.After-write-tables → tie.Else1
+abbrev at-accepted : tie.After-write-reserve → tie.Else1
 at-accepted c = c .before .before
 
-abbrev at-tables : tie.After-write-empty-index → tie.After-write-tables
-at-tables c = c .before .before .before .before
+abbrev at-reserve : tie.After-write-empty-index → tie.After-write-reserve
+at-reserve c = c .before .before .before .before
 
 -- image and index as they were lent
 abbrev state : tie.After-lay-refusal → State
@@ -40,8 +40,8 @@ returns c =
     let no = c .before .lay-refusal in
     sym (refused (at-start (c .before) .args .g) lay (state (c .before)) (no .result) (sym (no .ensures)) (c .if1 .taken))
 
-write-tables-requires : tie.Need-write-tables-requires
-write-tables-requires c κs = let f = lay-accepted _ _ _ (accepted (c .before)) in record { allowed = f .0; long = f .2 }
+write-reserve-requires : tie.Need-write-reserve-requires
+write-reserve-requires c κs = let f = lay-accepted _ _ _ (accepted (c .before)) in record { allowed = f .0; long = f .2 }
 
 write-empty-index-requires : tie.Need-write-empty-index-requires
 write-empty-index-requires c κs =
@@ -56,7 +56,7 @@ same-length-4 c = search needs
 
 returns-2 : tie.Need-returns-2
 returns-2 c =
-    let k = at-accepted (at-tables (c .before .before)) in
+    let k = at-accepted (at-reserve (c .before .before)) in
     cc (lay-done (at-start (k .before) .args .g) (state (k .before)) (accepted k))
 
 pub lay-spec : {M : Type 1} → statement M
@@ -67,7 +67,7 @@ lay-spec =
     same-length
     same-length-2
     returns
-    write-tables-requires
+    write-reserve-requires
     write-empty-index-requires
     same-length-3
     same-length-4
