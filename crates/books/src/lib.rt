@@ -106,7 +106,8 @@ fn extend(g: Geometry, image: &mut [u8], index: &mut [u8], region: Region, old: 
     grow_tables(g, image, index, region, pages);
     index_anew(g, image, index);
     let n = pages.0 * g.page as u64;
-    stretches::zero_in(g, image, index, region, first_new(g, old), n as usize);
+    let spot = g.spot(first_new(g, old));
+    stretches::zero_in(g, image, index, region, spot, n as usize);
 }
 
 // Grow by so many pages: answers the old page count.

@@ -3,44 +3,33 @@ use Prim.Native.Nat.{ℕ, _+_, _-_, _*_, _≤_, _<_, min}
 use mathlib.Core.Path.{_≡_, sym, _∙_}
 use mathlib.Core.List.{List}
 use native.Mathlib.Omega.{arith}
-use native.Mathlib.Nat.{add-mul, one-mul, div-mul-le-self, lt-div-mul-add}
-use native.Mathlib.Decide.{decLe}
+use native.Mathlib.Nat.{add-mul, one-mul}
 use lib.ListN.{length, take, drop}
 use Rattle.paper.specs.declared.Geometry.{Geometry}
+use Rattle.paper.specs.declared.Spot.{Spot}
 use Rattle.paper.specs.Geometry.{blockBytes, Allowed, dataAt}
 use Rattle.paper.specs.Image.{front, pagesOf}
 use Rattle.paper.specs.Index.{startIn, blockIn}
 use Rattle.paper.specs.Calls.{loaded, lookBytes}
-use Rattle.paper.proofs.Arithmetic.{block-positive}
 use Rattle.rules.specs.Facts.{Reads}
+use Rattle.rules.specs.Touched.{firstTouched, endTouched}
 use Rattle.rules.proofs.Touched.{touched-some}
-use Rattle.keeping.proofs.Cut.{cut-inside, cut-from, cut-start}
+use Rattle.rules.proofs.Right.{reads-right, reads-within}
 use Rattle.keeping.proofs.Loaded.{loaded-within}
 use Rattle.stretches.specs.declared.Stretch.{Stretch}
-use Rattle.stretches.specs.Stretch.{cutFrom, cutTo, IsStretch}
-use Rattle.stretches.proofs.Walks.{stretch-fits}
-use Rattle.rules.specs.Touched.{firstTouched, endTouched, Touches}
-use Rattle.rules.proofs.Right.{reads-right, reads-within}
+use Rattle.stretches.specs.Stretch.{inBlock, IsSpot, IsStretch}
+use Rattle.stretches.proofs.Walks.{spot-first}
 
-look-length : (b o q w : ℕ) → q ≤ o → o < q + w → o ≤ b → min (o + (b - o) - q) w - (o - q) ≡ min b (q + w) - o
-look-length b o q w lo hi h = let e : o + (b - o) ≡ b = omega arith in rw e (go (decLe b (q + w)))
-  where
-    go : Dec (b ≤ q + w) → min (b - q) w - (o - q) ≡ min b (q + w) - o
-    go (yes l) =
-        let m : min (b - q) w ≡ b - q = omega arith in
-        let k : min b (q + w) ≡ b = omega arith in
-        rw (m, k) (omega arith)
-    go (no l) =
-        let m : min (b - q) w ≡ w = omega arith in
-        let k : min b (q + w) ≡ q + w = omega arith in
-        rw (m, k) (omega arith)
+-- the lesser of what is left of the book and of the block, as the paper counts it: the book has b bytes, the block those from q on
+look-length : (b q a w : ℕ) → a < w → q + a ≤ b → min (b - (q + a)) (w - a) ≡ min b (q + w) - (q + a)
+look-length b q a w l h = omega arith
 
 look-lent : (a k : ℕ) → a + k - a ≡ k
 look-lent a k = omega arith
 
-module _ (g : Geometry) (image index : List ℕ) (r o : ℕ) (R : Reads g image index r o 1) where
+module _ (g : Geometry) (image index : List ℕ) (r o : ℕ) (R : Reads g image index r o 1) (s : Spot) (I : IsSpot g o s) where
   abbrev p : ℕ
-  p = firstTouched g o
+  p = s .position .0
 
   abbrev w : ℕ
   w = blockBytes g
@@ -51,35 +40,25 @@ module _ (g : Geometry) (image index : List ℕ) (r o : ℕ) (R : Reads g image 
   A : Allowed g
   A = R .entered .geometry
 
-  reached : firstTouched g o < endTouched g o 1
-  reached = omega (arith, touched-some g o 1 (λ e. omega arith))
+  first : firstTouched g o ≡ p
+  first = rw (I .offset) at (spot-first g s (I .inside))
 
-  pub look-slot : startIn g index r + firstTouched g o < g .blocks
-  look-slot = reads-right g image index r o 1 R p (omega arith) reached .slot
+  reached : p < endTouched g o 1
+  reached = omega (arith, first, touched-some g o 1 (λ e. omega arith))
 
-  inside : (p * w ≤ o) × (o < p * w + w)
-  inside = (div-mul-le-self o w, lt-div-mul-add {a = o} {b = w} (block-positive g A))
+  pub look-slot : startIn g index r + s .position .0 < g .blocks
+  look-slot = reads-right g image index r o 1 R p (omega (arith, first)) reached .slot
 
-  module _ (n : ℕ) (e : n ≡ pagesOf g (front g image) r * g .page - o) (s : Stretch)
-      (S : IsStretch g (blockIn g index r (firstTouched g o)) o n (firstTouched g o) s) where
-    T : Touches g o n p
-    T = record { begins = omega (arith, inside .0, R .within); ends = inside .1 }
+  module _ (n : ℕ) (e : n ≡ pagesOf g (front g image) r * g .page - o) (x : Stretch) (S : IsStretch g (blockIn g index r (s .position .0)) s n x) where
+    pub look-fits : x .at + x .bytes ≤ length image
+    look-fits = rw (S .at, S .bytes) (omega (arith, I .inside, reads-within g image index r o 1 R p (omega (arith, first)) reached))
 
-    fits : dataAt g (blockIn g index r p) + w ≤ length image
-    fits = reads-within g image index r o 1 R p (omega arith) reached
-
-    pub look-fits : s .at + s .bytes ≤ length image
-    look-fits = stretch-fits g (blockIn g index r p) o n p (length image) s S T fits .0
-
-    pub look-shows : take (s .at + s .bytes - s .at) (drop (s .at) image)
-        ≡ loaded g (blockIn g index r) o (lookBytes g (front g image) r o) image
+    pub look-shows : take (x .at + x .bytes - x .at) (drop (x .at) image) ≡ loaded g (blockIn g index r) o (lookBytes g (front g image) r o) image
     look-shows =
-        let a = cutFrom g o p in
-        let k = cutTo g o n p - a in
-        let d = dataAt g (blockIn g index r p) in
-        let f : p * w + a ≡ o = cut-start o n (p * w) w (T .begins) (T .ends) ∙ omega (arith, inside .0) in
+        let a = s .within in
+        let k = inBlock g s n in
         let l : k ≡ lookBytes g (front g image) r o
-        = rw (cut-from o n (p * w) w (T .begins) (T .ends), e, add-mul p 1 w, one-mul w) (look-length bytes o (p * w) w (inside .0) (inside .1) (omega (arith, R .within))) in
-        let long : d + a + k ≤ length image = rw (S .at, S .bytes) at look-fits in
-        rw (look-lent (s .at) (s .bytes), S .at, S .bytes)
-        (sym (loaded-within g A (blockIn g index r) p a k image (cut-inside o n (p * w) w) long) ∙ rw (f, l))
+        = rw (e, first, add-mul p 1 w, one-mul w, ← I .offset) (look-length bytes (p * w) a w (I .inside) (omega (arith, I .offset, R .within))) in
+        let long : dataAt g (blockIn g index r p) + a + k ≤ length image = rw (S .at, S .bytes) at look-fits in
+        rw (look-lent (x .at) (x .bytes), S .at, S .bytes)
+        (sym (loaded-within g A (blockIn g index r) p a k image (omega (arith, I .inside)) long) ∙ rw (I .offset, l))

@@ -1,1 +1,2 @@
--- The contracts cite the definitions of paper and rules alone.
+-- What is told of the bytes that a call asks for.
+pub mod Reading

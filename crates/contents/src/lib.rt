@@ -7,12 +7,19 @@ ghost use Rattle.paper.specs.Geometry.{mostBookPages};
 ghost use Rattle.paper.specs.Image.{front, pagesOf};
 ghost use Rattle.paper.specs.Calls.{load, store, look};
 ghost use Rattle.paper.specs.Outcomes.{lent, gives, outcome};
-ghost use Rattle.rules.specs.Lines.{readNo};
 ghost use Rattle.rules.specs.Facts.{Readable};
+ghost use Rattle.contents.specs.Reading.{Told};
 use paper::Answer;
 use paper::Geometry;
 use paper::Offset;
 use paper::Region;
+use paper::Spot;
+
+// Where the bytes of a load, store or look start, or the number of the refusal.
+enum Reading {
+    From(Spot),
+    No(u8),
+}
 
 fn book_bytes(g: Geometry, image: &[u8], region: Region) -> u64
     requires { ⌜ Readable g (now image) ⌝ }
@@ -35,32 +42,33 @@ fn beyond(g: Geometry, image: &[u8], region: Region, offset: Offset, n: usize) -
     bytes - offset.0 < n as u64
 }
 
-// 1 to 5, 8, 6, 9, 7 for n bytes at the offset; 0 where none applies.
-fn read_refusal(
+// 1 to 5, 8, 6, 9, 7 for n bytes at the offset. An offset in the book is turned here, once; whoever reads or writes goes on from its spot.
+fn read_from(
     g: Geometry,
     image: &[u8],
     index: &[u8],
     region: Region,
     offset: Offset,
     n: usize,
-) -> u8
-    ensures { λ k. ⌜ k ≡ readNo g (now (image .entry)) (now (index .entry)) (region .0) (offset .0) n ⌝ }
+) -> Reading
+    ensures { λ a. ⌜ Told g (now (image .entry)) (now (index .entry)) (region .0) (offset .0) n a ⌝ }
 {
     let no = desk::entered(g, image, index);
     if no != 0 {
-        return no;
+        return Reading::No(no);
     }
     let no = desk::book_refusal(g, image, region);
     if no != 0 {
-        return no;
+        return Reading::No(no);
     }
     if beyond(g, image, region, offset, n) {
-        return desk::BEYOND;
+        return Reading::No(desk::BEYOND);
     }
-    if !stretches::touched_right(g, image, index, region, offset, n) {
-        return desk::INDEX;
+    let spot = g.spot(offset);
+    if !stretches::touched_right(g, image, index, region, spot, n) {
+        return Reading::No(desk::INDEX);
     }
-    0
+    Reading::From(spot)
 }
 
 // Fills the lent buffer; its length is the number of bytes asked.
@@ -74,12 +82,14 @@ pub fn load(
 ) -> Answer
     ensures { λ r. ⌜ gives r (now (buffer .exit)) (lent (now (image .entry)) (now (index .entry))) ≡ outcome g (load (region .0) (offset .0) (now (buffer .entry))) (lent (now (image .entry)) (now (index .entry))) ⌝ }
 {
-    let no = read_refusal(g, image, index, region, offset, buffer.len());
-    if no != 0 {
-        return Answer::Refused(no);
+    let reading = read_from(g, image, index, region, offset, buffer.len());
+    match reading {
+        Reading::No(no) => Answer::Refused(no),
+        Reading::From(spot) => {
+            stretches::copy_out(g, image, index, region, spot, buffer);
+            Answer::Done(0)
+        }
     }
-    stretches::copy_out(g, image, index, region, offset, buffer);
-    Answer::Done(0)
 }
 
 // Writes the lent bytes; every block that they touch is checked before the first is written.
@@ -93,12 +103,14 @@ pub fn store(
 ) -> Answer
     ensures { λ r. ⌜ gives r [] (lent (now (image .exit)) (now (index .entry))) ≡ outcome g (store (region .0) (offset .0) (now (bytes .entry))) (lent (now (image .entry)) (now (index .entry))) ⌝ }
 {
-    let no = read_refusal(g, image, index, region, offset, bytes.len());
-    if no != 0 {
-        return Answer::Refused(no);
+    let reading = read_from(g, image, index, region, offset, bytes.len());
+    match reading {
+        Reading::No(no) => Answer::Refused(no),
+        Reading::From(spot) => {
+            stretches::copy_in(g, image, index, region, spot, bytes);
+            Answer::Done(0)
+        }
     }
-    stretches::copy_in(g, image, index, region, offset, bytes);
-    Answer::Done(0)
 }
 
 // The caller's own image bytes from the offset to the end of the block or book, whichever comes first.
@@ -111,11 +123,12 @@ pub fn look<'a, 'b>(
 ) -> &'a [u8]
     ensures { λ r. ⌜ now r ≡ outcome g (look (region .0) (offset .0)) (lent (now (image .entry)) (now (index .entry))) .bytes ⌝ }
 {
-    if read_refusal(g, image, index, region, offset, 1) != 0 {
+    let reading = read_from(g, image, index, region, offset, 1);
+    let Reading::From(spot) = reading else {
         return &image[0..0];
-    }
+    };
     let left = (book_bytes(g, image, region) - offset.0) as usize;
-    let s = stretches::first_stretch(g, index, region, offset, left);
+    let s = stretches::first_stretch(g, index, region, spot, left);
     let from = s.at;
     let to = from + s.bytes;
     &image[from..to]

@@ -8,9 +8,10 @@ ghost use Rattle.paper.specs.Image.{front, taken};
 ghost use Rattle.paper.specs.Calls.{size};
 ghost use Rattle.paper.specs.Refusals.{usable};
 ghost use Rattle.paper.specs.Outcomes.{lent, gives, outcome};
-ghost use Rattle.rules.specs.Facts.{Readable};
+ghost use Rattle.rules.specs.Facts.{Readable, Headed};
 ghost use Rattle.rules.specs.Lines.{headNo, wholeNo, bookNo, indexedHeadNo, enteredNo};
 use paper::Answer;
+use paper::Block;
 use paper::Geometry;
 use paper::Region;
 
@@ -73,12 +74,13 @@ pub fn indexed_head(g: Geometry, image: &[u8], index: &[u8]) -> u8
     head(g, image)
 }
 
-// The image has room for fewer blocks than were taken.
+// The image has room for fewer blocks than were taken: it ends before the next one, block N, would begin. N is at most B, so this says as
+// much as K does, and divides nothing.
 pub fn tail_missing(g: Geometry, image: &[u8]) -> bool
-    requires { ⌜ Readable g (now image) ⌝ }
+    requires { ⌜ Headed g (now image) ⌝ }
     ensures { λ t. ⌜ t ≡ ltb (capacity g (length (now (image .entry)))) (taken g (front g (now (image .entry)))) ⌝ }
 {
-    g.capacity(image.len()) < image::taken(g, image) as usize
+    image.len() < g.data_at(Block(image::taken(g, image)))
 }
 
 // 1, 3, 4, 5.

@@ -1,47 +1,70 @@
-// The stretches of a book that n bytes from an offset on touch: found in the index, checked, and copied.
+// The stretches of a book that n bytes from an offset on touch: found in the index, checked, and copied. The offset comes as a spot, turned
+// once; a walk then goes on from block to block, divides nothing, and ends when no byte is left.
 ghost use mathlib.Core.Path.{_≡_};
-ghost use Prim.Native.Nat.{_+_, _*_, _/_, _^_, _<_};
+ghost use Prim.Native.Nat.{_+_, _^_, _<_};
 ghost use lib.ListN.{length, replicate};
-ghost use Rattle.paper.specs.Geometry.{Allowed};
+ghost use Rattle.paper.specs.Geometry.{Allowed, blockBytes};
 ghost use Rattle.paper.specs.Image.{front, needOf};
 ghost use Rattle.paper.specs.Index.{startIn, blockIn};
 ghost use Rattle.paper.specs.Calls.{loaded, stored};
 ghost use Rattle.paper.specs.Refusals.{rightAt, touchedRight};
 ghost use Rattle.rules.specs.Facts.{Entered, Reads, Indexed};
-ghost use Rattle.stretches.specs.Stretch.{blockFrom, IsStretch};
-ghost use Rattle.rules.specs.Touched.{firstTouched, endTouched, Touches};
+ghost use Rattle.stretches.specs.Stretch.{blockFrom, offsetOf, inBlock, IsStretch};
 use paper::Geometry;
-use paper::Offset;
 use paper::Position;
 use paper::Region;
+use paper::Spot;
 
-// So many bytes from `at` on in the image, which are those from `skip` on of the bytes asked.
+// So many bytes from `at` on in the image.
 pub struct Stretch {
     pub at: usize,
-    pub skip: usize,
     pub bytes: usize,
 }
 
-// ---- the touched positions. A book has fewer than 2^40 bytes, so that nothing here wraps
+// ---- a walk from block to block
 
-fn first_touched(g: Geometry, offset: Offset) -> Position
-    requires { ⌜ Allowed g ⌝ }
-    ensures { λ p. ⌜ p .0 ≡ firstTouched g (offset .0) ⌝ }
+// Of so many bytes left, those that fall into the spot's block.
+fn in_block(g: Geometry, spot: Spot, left: usize) -> usize
+    requires { ⌜ Allowed g × (spot .within < blockBytes g) ⌝ }
+    ensures { λ k. ⌜ k ≡ inBlock g spot left ⌝ }
 {
-    let p = offset.0 as usize / g.block_bytes();
-    Position(p)
+    numbers::lesser(left, g.block_bytes() - spot.within)
 }
 
-fn end_touched(g: Geometry, offset: Offset, n: usize) -> Position
-    requires { ⌜ Allowed g × (offset .0 + n < 2 ^ 40) ⌝ }
-    ensures { λ p. ⌜ p .0 ≡ endTouched g (offset .0) n ⌝ }
+// Where the next block starts. A book has fewer than 2^40 bytes, so that nothing here wraps.
+fn next_block(spot: Spot) -> Spot
+    requires { ⌜ spot .position .0 < 2 ^ 40 ⌝ }
+    ensures { λ s. ⌜ (s .position .0 ≡ spot .position .0 + 1) × (s .within ≡ 0) ⌝ }
 {
-    if n == 0 {
-        return first_touched(g, offset);
+    let position = Position(spot.position.0 + 1);
+    Spot {
+        position,
+        within: 0,
     }
-    let end = (offset.0 as usize + n - 1) / g.block_bytes() + 1;
-    Position(end)
 }
+
+// The stretch that starts at the spot, of so many bytes left.
+fn stretch_at(g: Geometry, index: &[u8], start: u16, spot: Spot, left: usize) -> Stretch
+    requires { ⌜ Indexed g (now index) × (start + spot .position .0 < g .blocks) × (spot .within < blockBytes g) ⌝ }
+    ensures { λ s. ⌜ IsStretch g (blockFrom g (now (index .entry)) start (spot .position .0)) spot left s ⌝ }
+{
+    let b = index::slot_in(g, index, start as usize + spot.position.0);
+    let at = g.data_at(b) + spot.within;
+    let bytes = in_block(g, spot, left);
+    Stretch { at, bytes }
+}
+
+// The first stretch of a load of n bytes.
+pub fn first_stretch(g: Geometry, index: &[u8], r: Region, spot: Spot, n: usize) -> Stretch
+    requires { ⌜ Indexed g (now index) × (r .0 < g .entries) ⌝ }
+    requires { ⌜ (startIn g (now index) (r .0) + spot .position .0 < g .blocks) × (spot .within < blockBytes g) ⌝ }
+    ensures { λ s. ⌜ IsStretch g (blockIn g (now (index .entry)) (r .0) (spot .position .0)) spot n s ⌝ }
+{
+    let start = index::start_in(g, index, r);
+    stretch_at(g, index, start, spot, n)
+}
+
+// ---- the check
 
 // Position p of region r, whose block numbers start at `start`.
 fn right_at(g: Geometry, image: &[u8], index: &[u8], r: Region, start: u16, p: Position) -> bool
@@ -63,126 +86,84 @@ fn right_at(g: Geometry, image: &[u8], index: &[u8], r: Region, start: u16, p: P
     image::place(g, image, b).0 == p.0
 }
 
-// Each touched position has its block in the index.
+// Each position that n bytes from the spot on touch has its block in the index.
 pub fn touched_right(
     g: Geometry,
     image: &[u8],
     index: &[u8],
     r: Region,
-    offset: Offset,
+    spot: Spot,
     n: usize,
 ) -> bool
-    requires { ⌜ Entered g (now image) (now index) ⌝ }
-    requires { ⌜ (r .0 < g .entries) × (offset .0 + n < 2 ^ 40) ⌝ }
-    ensures { λ t. ⌜ t ≡ touchedRight g (front g (now (image .entry))) (now (index .entry)) (r .0) (offset .0) n ⌝ }
+    requires { ⌜ Entered g (now image) (now index) × (r .0 < g .entries) ⌝ }
+    requires { ⌜ (spot .within < blockBytes g) × (offsetOf g spot + n < 2 ^ 40) ⌝ }
+    ensures { λ t. ⌜ t ≡ touchedRight g (front g (now (image .entry))) (now (index .entry)) (r .0) (offsetOf g spot) n ⌝ }
 {
     let start = index::start_in(g, index, r);
-    let first = first_touched(g, offset).0;
-    let end = end_touched(g, offset, n).0;
-    for p in first..end {
-        if !right_at(g, image, index, r, start, Position(p)) {
+    let mut at = spot;
+    let mut left = n;
+    while 0 < left {
+        let p = at.position;
+        if !right_at(g, image, index, r, start, p) {
             return false;
         }
+        left -= in_block(g, at, left);
+        at = next_block(at);
     }
     true
 }
 
-// ---- a stretch
-
-// Of n bytes from the offset on, those that fall into position p, which they touch.
-fn stretch_at(
-    g: Geometry,
-    index: &[u8],
-    start: u16,
-    p: Position,
-    offset: Offset,
-    n: usize,
-) -> Stretch
-    requires { ⌜ Indexed g (now index) × (start + p .0 < g .blocks) ⌝ }
-    requires { ⌜ Touches g (offset .0) n (p .0) × (offset .0 + n < 2 ^ 40) ⌝ }
-    ensures { λ s. ⌜ IsStretch g (blockFrom g (now (index .entry)) start (p .0)) (offset .0) n (p .0) s ⌝ }
-{
-    let o = offset.0 as usize;
-    let w = g.block_bytes();
-    let begin = p.0 * w;
-    let end = numbers::lesser(o + n - begin, w);
-    let b = index::slot_in(g, index, start as usize + p.0);
-    let block = g.data_at(b);
-    if begin < o {
-        let a = o - begin;
-        let at = block + a;
-        let bytes = end - a;
-        return Stretch { at, skip: 0, bytes };
-    }
-    Stretch {
-        at: block,
-        skip: begin - o,
-        bytes: end,
-    }
-}
-
-// The first stretch of a load of n bytes.
-pub fn first_stretch(g: Geometry, index: &[u8], r: Region, offset: Offset, n: usize) -> Stretch
-    requires { ⌜ Indexed g (now index) × (r .0 < g .entries) ⌝ }
-    requires { ⌜ (startIn g (now index) (r .0) + firstTouched g (offset .0) < g .blocks) × (0 < n) × (offset .0 + n < 2 ^ 40) ⌝ }
-    ensures { λ s. ⌜ IsStretch g (blockIn g (now (index .entry)) (r .0) (firstTouched g (offset .0))) (offset .0) n (firstTouched g (offset .0)) s ⌝ }
-{
-    let start = index::start_in(g, index, r);
-    stretch_at(g, index, start, first_touched(g, offset), offset, n)
-}
-
 // ---- stretch by stretch
 
-// The book's bytes from the offset on, as many as the buffer holds.
-pub fn copy_out(
-    g: Geometry,
-    image: &[u8],
-    index: &[u8],
-    r: Region,
-    offset: Offset,
-    buffer: &mut [u8],
-)
-    requires { ⌜ Reads g (now image) (now index) (r .0) (offset .0) (length (now buffer)) ⌝ }
-    ensures { λ _. ⌜ now (buffer .exit) ≡ loaded g (blockIn g (now (index .entry)) (r .0)) (offset .0) (length (now (buffer .entry))) (now (image .entry)) ⌝ }
+// The book's bytes from the spot on, as many as the buffer holds.
+pub fn copy_out(g: Geometry, image: &[u8], index: &[u8], r: Region, spot: Spot, buffer: &mut [u8])
+    requires { ⌜ Reads g (now image) (now index) (r .0) (offsetOf g spot) (length (now buffer)) × (spot .within < blockBytes g) ⌝ }
+    ensures { λ _. ⌜ now (buffer .exit) ≡ loaded g (blockIn g (now (index .entry)) (r .0)) (offsetOf g spot) (length (now (buffer .entry))) (now (image .entry)) ⌝ }
 {
     let n = buffer.len();
     let start = index::start_in(g, index, r);
-    let first = first_touched(g, offset).0;
-    let end = end_touched(g, offset, n).0;
-    for p in first..end {
-        let s = stretch_at(g, index, start, Position(p), offset, n);
-        let at = s.at;
-        let skip = s.skip;
+    let mut at = spot;
+    let mut left = n;
+    while 0 < left {
+        let s = stretch_at(g, index, start, at, left);
+        let from = s.at;
         let bytes = s.bytes;
-        numbers::copy(&image[at..at + bytes], &mut buffer[skip..skip + bytes]);
+        let done = n - left;
+        numbers::copy(&image[from..from + bytes], &mut buffer[done..done + bytes]);
+        left -= bytes;
+        at = next_block(at);
     }
 }
 
-// The bytes into the book from the offset on.
-pub fn copy_in(g: Geometry, image: &mut [u8], index: &[u8], r: Region, offset: Offset, bytes: &[u8])
-    requires { ⌜ Reads g (now image) (now index) (r .0) (offset .0) (length (now bytes)) ⌝ }
-    ensures { λ _. ⌜ now (image .exit) ≡ stored g (blockIn g (now (index .entry)) (r .0)) (needOf g (front g (now (image .entry))) (r .0)) (offset .0) (now (bytes .entry)) (now (image .entry)) ⌝ }
+// The bytes into the book from the spot on.
+pub fn copy_in(g: Geometry, image: &mut [u8], index: &[u8], r: Region, spot: Spot, bytes: &[u8])
+    requires { ⌜ Reads g (now image) (now index) (r .0) (offsetOf g spot) (length (now bytes)) × (spot .within < blockBytes g) ⌝ }
+    ensures { λ _. ⌜ now (image .exit) ≡ stored g (blockIn g (now (index .entry)) (r .0)) (needOf g (front g (now (image .entry))) (r .0)) (offsetOf g spot) (now (bytes .entry)) (now (image .entry)) ⌝ }
 {
     let n = bytes.len();
     let start = index::start_in(g, index, r);
-    let first = first_touched(g, offset).0;
-    let end = end_touched(g, offset, n).0;
-    for p in first..end {
-        let s = stretch_at(g, index, start, Position(p), offset, n);
-        numbers::copy_part(bytes, s.skip, image, s.at, s.bytes);
+    let mut at = spot;
+    let mut left = n;
+    while 0 < left {
+        let s = stretch_at(g, index, start, at, left);
+        numbers::copy_part(bytes, n - left, image, s.at, s.bytes);
+        left -= s.bytes;
+        at = next_block(at);
     }
 }
 
-// Zeros into the book: n bytes from the offset on.
-pub fn zero_in(g: Geometry, image: &mut [u8], index: &[u8], r: Region, offset: Offset, n: usize)
-    requires { ⌜ Reads g (now image) (now index) (r .0) (offset .0) n ⌝ }
-    ensures { λ _. ⌜ now (image .exit) ≡ stored g (blockIn g (now (index .entry)) (r .0)) (needOf g (front g (now (image .entry))) (r .0)) (offset .0) (replicate n 0) (now (image .entry)) ⌝ }
+// Zeros into the book: n bytes from the spot on.
+pub fn zero_in(g: Geometry, image: &mut [u8], index: &[u8], r: Region, spot: Spot, n: usize)
+    requires { ⌜ Reads g (now image) (now index) (r .0) (offsetOf g spot) n × (spot .within < blockBytes g) ⌝ }
+    ensures { λ _. ⌜ now (image .exit) ≡ stored g (blockIn g (now (index .entry)) (r .0)) (needOf g (front g (now (image .entry))) (r .0)) (offsetOf g spot) (replicate n 0) (now (image .entry)) ⌝ }
 {
     let start = index::start_in(g, index, r);
-    let first = first_touched(g, offset).0;
-    let end = end_touched(g, offset, n).0;
-    for p in first..end {
-        let s = stretch_at(g, index, start, Position(p), offset, n);
+    let mut at = spot;
+    let mut left = n;
+    while 0 < left {
+        let s = stretch_at(g, index, start, at, left);
         numbers::zero_part(image, s.at, s.at + s.bytes);
+        left -= s.bytes;
+        at = next_block(at);
     }
 }

@@ -1,52 +1,60 @@
 -- `contents::store` meets its contract: refused, or done.
-use mathlib.Core.Path.{_≡_, sym, _∙_}
-use lib.ListN.{length}
+use mathlib.Core.Path.{sym, _∙_}
 use Rattle.paper.specs.Calls.{store}
 use Rattle.paper.specs.Outcomes.{lent}
-use Rattle.rules.specs.Lines.{readNo}
-use Rattle.rules.proofs.Lines.{store-number, read-accepted, refused, store-done}
+use Rattle.rules.proofs.Lines.{store-number, store-done}
+use Rattle.contents.proofs.Told.{told-reads, told-refused}
 use borrow.Author.Needs.{needs}
 use Rattle.contents.proofs.store.Statement.{statement}
 use Rattle.contents.proofs.store.Tie as tie
 
--- where the call began, seen from the place after the test
-abbrev start1 : tie.Else1 → tie.Start
-start1 c = c .before .before .before .before .before .before
+-- where the call began, seen from the place after the check
+abbrev start : tie.After-read-from → tie.Start
+start c = c .before .before .before .before .before
 
-none : (c : tie.Else1) → let a = start1 c .args in
-    readNo (a .g) (a .image .now) (a .index .now) (a .region .0) (a .offset .0) (length (a .bytes .now)) ≡ 0
-none c = sym (c .before .read-refusal .ensures) ∙ c .if1 .left
+read-from-requires : tie.Need-read-from-requires
+read-from-requires c κs = search needs
 
-read-refusal-requires : tie.Need-read-refusal-requires
-read-refusal-requires c κs = search needs
+enum-known-reading : tie.Need-enum-known-reading
+enum-known-reading c = search needs
+
+enum-known-reading-2 : tie.Need-enum-known-reading-2
+enum-known-reading-2 c = search needs
+
+copy-in-requires : tie.Need-copy-in-requires
+copy-in-requires c κs = told-reads (c .before .before .before .before .read-from .ensures) (c .before .before .reading2 .given .1)
 
 same-length : tie.Need-same-length
 same-length c = search needs
 
 returns : tie.Need-returns
 returns c =
-    let a = c .before .before .before .before .before .before .args in
-    let no = c .before .read-refusal in
-    let k = store-number (a .g) (a .image .now) (a .index .now) (a .region .0) (a .offset .0) (a .bytes .now) ∙ sym (no .ensures) in
-    sym (refused (a .g) (store (a .region .0) (a .offset .0) (a .bytes .now)) (lent (a .image .now) (a .index .now)) (no .result) k (c .if1 .taken))
-
-copy-in-requires : tie.Need-copy-in-requires
-copy-in-requires c κs =
-    let a = start1 (c .before) .args in
-    read-accepted (a .g) (a .image .now) (a .index .now) (a .region .0) (a .offset .0) (length (a .bytes .now)) (none (c .before))
+    let told = c .before .before .before in
+    let a = start told .args in
+    told-refused (told .read-from .ensures) (c .before .reading .given .1) (store (a .region .0) (a .offset .0) (a .bytes .now))
+    (store-number (a .g) (a .image .now) (a .index .now) (a .region .0) (a .offset .0) (a .bytes .now))
 
 same-length-2 : tie.Need-same-length-2
 same-length-2 c = search needs
 
 returns-2 : tie.Need-returns-2
 returns-2 c =
-    let one = c .before .before .before .before in
-    let a = start1 one .args in
-    let k = store-number (a .g) (a .image .now) (a .index .now) (a .region .0) (a .offset .0) (a .bytes .now) ∙ none one in
-    rw (c .before .before .copy-in .ensures)
+    let told = c .before .before .before .before .before .before .before in
+    let a = start told .args in
+    let T = told .read-from .ensures .accepted _ (c .before .before .before .before .before .reading2 .given .1) in
+    let k = store-number (a .g) (a .image .now) (a .index .now) (a .region .0) (a .offset .0) (a .bytes .now) ∙ T .0 in
+    rw (c .before .before .copy-in .ensures, T .1 .offset)
     (sym (store-done (a .g) (lent (a .image .now) (a .index .now)) (a .region .0) (a .offset .0) (a .bytes .now) k))
 
 pub store-spec : {M : Type 1} → statement M
 store-spec =
     tie.close
-    (tie.spec read-refusal-requires same-length returns copy-in-requires same-length-2 returns-2)
+    (tie.spec
+    read-from-requires
+    enum-known-reading
+    enum-known-reading-2
+    copy-in-requires
+    same-length
+    returns
+    same-length-2
+    returns-2)

@@ -27,7 +27,7 @@ returns c =
     sym (entered-stop (a .g) (a .image .now) (a .index .now) (no .result) (no .ensures) (c .if1 .taken))
 
 tail-missing-requires : tie.Need-tail-missing-requires
-tail-missing-requires c κs = headed c .0 .readable
+tail-missing-requires c κs = headed c .0
 
 returns-2 : tie.Need-returns-2
 returns-2 c =

@@ -24,7 +24,7 @@ returns c =
     sym (whole-stop (a .g) (a .image .now) (c .before .head .result) (c .before .head .ensures) (c .if1 .taken))
 
 tail-missing-requires : tie.Need-tail-missing-requires
-tail-missing-requires c κs = headed c .readable
+tail-missing-requires c κs = headed c
 
 returns-2 : tie.Need-returns-2
 returns-2 c =

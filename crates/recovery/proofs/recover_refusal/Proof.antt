@@ -55,7 +55,7 @@ returns-2 c =
     sym (recover-16 (a .g) (a .image .now) (a .index .now) (headed one .0) (headed one .1) (sym (c .before .unused-blank .ensures) ∙ not-true _ (c .if2 .taken)))
 
 tail-missing-requires : tie.Need-tail-missing-requires
-tail-missing-requires c κs = headed (c .before .before) .0 .readable
+tail-missing-requires c κs = headed (c .before .before) .0
 
 returns-3 : tie.Need-returns-3
 returns-3 c =

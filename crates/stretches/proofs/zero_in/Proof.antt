@@ -1,129 +1,109 @@
--- `zero_in` meets its contract: before position p the image is that of a store of zeros, up to there.
-use Prim.Native.Nat.{_+_, _-_, _^_, _≤_, _<_}
-use mathlib.Core.Path.{_≡_, refl, _∙_, ap}
+-- `zero_in` meets its contract: before the spot's block the image is that of a store of zeros, up to there.
+use Prim.Native.Nat.{_+_, _-_}
+use mathlib.Core.Path.{_≡_, refl, _∙_}
 use lib.ListN.{length, length-replicate}
-use Rattle.paper.specs.Index.{blockIn}
-use Rattle.paper.specs.Calls.{stretch}
-use Rattle.stretches.specs.Stretch.{blockFrom, Step}
-use Rattle.stretches.proofs.Walks.{stretch-fits, writtenTo, written-none, written-more, written-all, reads-step}
 use Rattle.laws.proofs.Lists.{zeros, zeros-part}
+use Rattle.paper.specs.Index.{blockIn}
+use Rattle.rules.specs.Touched.{endTouched}
+use Rattle.rules.proofs.Right.{reads-index, reads-need}
+use Rattle.stretches.specs.Stretch.{blockFrom, offsetOf, Walk, Turn, Fits}
+use Rattle.stretches.proofs.Walks.{spot-first, walk-start, walk-end, walk-on, reads-turn, stretch-fits, writtenTo, written-none, written-on, written-all}
 use native.Mathlib.Omega.{arith}
 use borrow.Author.Needs.{needs}
 use Rattle.stretches.proofs.zero_in.Statement.{statement}
 use Rattle.stretches.proofs.zero_in.Tie as tie
-use Rattle.rules.specs.Touched.{endTouched}
-use Rattle.rules.specs.Facts.{Indexed}
-use Rattle.paper.specs.Geometry.{Allowed}
-use Rattle.rules.proofs.Right.{reads-index, reads-bytes, reads-need}
 
 abbrev Inv-loop : tie.InvT-loop
-Inv-loop g image₀ index offset n start first end p₀ image p =
-    (first ≤ p) × (p ≤ end) × (length image ≡ length image₀) × (image ≡ writtenTo g (blockFrom g index start) (offset .0) (zeros n) image₀ p)
+Inv-loop g image₀ index n start at₀ left₀ image at left =
+    Walk g (offsetOf g at₀) n at left
+    × (length image ≡ length image₀)
+    × (image ≡ writtenTo g (blockFrom g index start) (offsetOf g at₀) (zeros n) image₀ (at .position .0))
 
 abbrev μ-loop : tie.MeasureT-loop
-μ-loop g image₀ index offset n start first end p₀ image p = end - p
+μ-loop g image₀ index n start at₀ left₀ image at left = left
 
--- the places, each from a later one: the start, the region's first slot known
+-- the start, from the place where the region's first slot is known
 abbrev start : tie.After-start-in Inv-loop μ-loop → tie.Start Inv-loop μ-loop
 start c = c .before .before .before
 
-abbrev slot-known : tie.At-loop Inv-loop μ-loop → tie.After-start-in Inv-loop μ-loop
-slot-known c = c .before .before .before
+turn : (c : tie.In-loop Inv-loop μ-loop)
+    → let k = c .before .before in
+    let a = start k .args in
+    Turn (a .g) (a .index .now) (k .start-in .result) (c .before .loop .at) (length (a .image .now))
+turn c =
+    let k = c .before .before in
+    reads-turn (start k .pre .0) (k .start-in .ensures) (c .before .loop .inv .0) (c .loop-test .taken)
 
--- what the index's reader and the count of the positions ask
-indexed : (s : tie.Start Inv-loop μ-loop) → let a = s .args in Indexed (a .g) (a .index .now) × (a .r .0 ≤ a .g .entries)
-indexed s = let a = s .args in reads-index (a .g) (a .image .now) (a .index .now) (a .r .0) (a .offset .0) (a .n) (s .pre)
-
-bounded : (s : tie.Start Inv-loop μ-loop) → let a = s .args in Allowed (a .g) × (a .offset .0 + a .n < 2 ^ 40)
-bounded s = let a = s .args in reads-bytes (a .g) (a .image .now) (a .index .now) (a .r .0) (a .offset .0) (a .n) (s .pre)
+fits : (c : tie.After-stretch-at Inv-loop μ-loop)
+    → let x = c .before .before .loop in
+    Fits (start (c .before .before .before) .args .n) (x .left) (length (x .image)) (c .stretch-at .result)
+fits c =
+    let x = c .before .before .loop in
+    rw (x .inv .1) (stretch-fits (x .inv .0) (c .before .loop-test .taken) (turn (c .before)) (c .stretch-at .ensures))
 
 start-in-requires : tie.Need-start-in-requires Inv-loop μ-loop
-start-in-requires c κs = indexed (c .before .before)
-
-first-touched-requires : tie.Need-first-touched-requires Inv-loop μ-loop
-first-touched-requires c κs = search needs
-
-end-touched-requires : tie.Need-end-touched-requires Inv-loop μ-loop
-end-touched-requires c κs = bounded (start (c .before))
+start-in-requires c κs =
+    let s = c .before .before in
+    let a = s .args in
+    reads-index (a .g) (a .image .now) (a .index .now) (a .r .0) _ (a .n) (s .pre .0)
 
 loop-holds : tie.Need-loop-holds Inv-loop μ-loop
 loop-holds c =
-    let k = c .before .before in
-    let a = start k .args in
-    let at = blockFrom (a .g) (a .index .now) (k .start-in .result) in (
-      omega arith,
-      omega arith,
+    let s = start c in
+    let a = s .args in (
+      walk-start (a .g) (a .spot) (s .pre .1) (a .n),
       refl,
-      rw (c .before .first-touched .ensures) (written-none (a .g) at (a .offset .0) (zeros (a .n)) (a .image .now)),
+      written-none (a .g) (blockFrom (a .g) (a .index .now) (c .start-in .result)) (offsetOf (a .g) (a .spot)) (zeros (a .n)) (a .image .now)
+          (a .spot .position .0) (spot-first (a .g) (a .spot) (s .pre .1)),
     )
-
--- the position of a turn
-step : (c : tie.In-loop Inv-loop μ-loop)
-    → let k = slot-known (c .before) in
-    let a = start k .args in
-    Step (a .g) (a .index .now) (k .start-in .result) (a .offset .0) (a .n) (c .before .loop .p) (length (a .image .now))
-step c =
-    let k = slot-known (c .before) in
-    let s = start k in
-    let a = s .args in
-    reads-step (a .g) (a .image .now) (a .index .now) (a .r .0) (a .offset .0) (a .n) (s .pre)
-    (c .before .loop .p) (omega arith) (omega arith) (k .start-in .result) (k .start-in .ensures)
-
--- its stretch
-fits : (c : tie.After-stretch-at Inv-loop μ-loop)
-    → (c .stretch-at .result .at + c .stretch-at .result .bytes ≤ length (c .before .before .loop .image))
-    × (c .stretch-at .result .skip + c .stretch-at .result .bytes ≤ start (slot-known (c .before .before)) .args .n)
-fits c =
-    let a = start (slot-known (c .before .before)) .args in
-    let x = c .before .before .loop in
-    let s = step (c .before) in
-    stretch-fits (a .g) _ (a .offset .0) (a .n) (x .p) (length (x .image)) _ (c .stretch-at .ensures) (s .touches) (rw (x .inv .2) (s .fits))
 
 stretch-at-requires : tie.Need-stretch-at-requires Inv-loop μ-loop
 stretch-at-requires c κs =
-    let s = start (slot-known (c .before)) in
-    ((indexed s .0, step c .slot), (step c .touches, bounded s .1))
+    let s = start (c .before .before) in
+    let a = s .args in
+    let T = turn c in
+    (reads-index (a .g) (a .image .now) (a .index .now) (a .r .0) _ (a .n) (s .pre .0) .0, T .slot, T .inside)
 
 add-zero-part : tie.Need-add-zero-part Inv-loop μ-loop
 add-zero-part c =
     let cut = c .before .before in
-    let s = start (slot-known (cut .before .before)) in
-    let f = fits cut in
-    record { fits = omega (arith, f .0, s .good) }
+    let s = start (cut .before .before .before) in
+    record { fits = omega (arith, fits cut .image, s .good, cut .before .before .loop .inv .1) }
 
 zero-part-requires : tie.Need-zero-part-requires Inv-loop μ-loop
-zero-part-requires c κs =
-    let f = fits (c .before .before) in
-    (omega arith, f .0)
+zero-part-requires c κs = (omega arith, fits (c .before .before) .image)
 
-add-p : tie.Need-add-p Inv-loop μ-loop
-add-p c = search needs
+sub-left : tie.Need-sub-left Inv-loop μ-loop
+sub-left c = omega (arith, fits (c .before .before .before .before .before .before) .most)
+
+next-block-requires : tie.Need-next-block-requires Inv-loop μ-loop
+next-block-requires c κs = turn (c .before .before .before .before .before .before .before) .bounded
 
 loop-less : tie.Need-loop-less Inv-loop μ-loop
-loop-less c = search needs
+loop-less c = let F = fits (c .before .before .before .before .before .before .before) in omega (arith, F .most, F .some)
 
 loop-again : tie.Need-loop-again Inv-loop μ-loop
 loop-again c =
-    let zeroed = c .before .before in
-    let cut = zeroed .before .before .before in
+    let P = c .before .before .before .before .zero-part in
+    let cut = c .before .before .before .before .before .before .before in
     let head = cut .before .before in
-    let k = slot-known head in
-    let a = start k .args in
+    let k = head .before in
+    let s = start k in
+    let a = s .args in
     let x = head .loop in
-    let S = cut .stretch-at in
-    let at = blockFrom (a .g) (a .index .now) (k .start-in .result) in
-    let o = a .offset .0 in
-    let ys = zeros (a .n) in
-    let P = zeroed .zero-part in
-    let f = fits cut in
-    let e : S .result .at + S .result .bytes - S .result .at ≡ S .result .bytes = omega arith in
-    let z = zeros-part (S .result .skip) (S .result .bytes) (a .n) (f .1) in
-    let one : P .last .0 ≡ stretch (a .g) at o ys (x .p) (x .image)
-    = rw (length-replicate (a .n)) (rw (e, ← z, S .ensures .at, S .ensures .skip, S .ensures .bytes) at (P .ensures)) in (
-      omega arith,
-      omega arith,
-      P .kept .0 ∙ x .inv .2,
-      one ∙ ap (stretch (a .g) at o ys (x .p)) (x .inv .3) ∙ written-more (a .g) at o ys (a .image .now) (x .p) (omega arith),
+    let A = s .pre .0 .entered .geometry in
+    let S = cut .stretch-at .ensures in
+    let t = c .next-block in
+    let o = offsetOf (a .g) (a .spot) in
+    let n = a .n in
+    let h = cut .before .loop-test .taken in
+    let q = cut .stretch-at .result in
+    let e : q .at + q .bytes - q .at ≡ q .bytes = omega arith in
+    let part = zeros-part (n - x .left) (q .bytes) n (fits cut .asked) in (
+      rw (S .bytes) (walk-on A (x .inv .0) h (t .ensures .0) (t .ensures .1)),
+      P .kept .0 ∙ x .inv .1,
+      written-on (a .g) (blockFrom (a .g) (a .index .now) (k .start-in .result)) o (zeros (a .n)) (a .image .now) A (length-replicate n 0) (x .inv .0) h (x .inv .2)
+          (rw (e, ← part, S .at, S .bytes) at (P .ensures)) (t .ensures .0),
     )
 
 same-length : tie.Need-same-length Inv-loop μ-loop
@@ -131,15 +111,18 @@ same-length c = search needs
 
 returns : tie.Need-returns Inv-loop μ-loop
 returns c =
-    let k = c .before .before .before .before in
-    let s = k .before .before .before in
+    let k = c .before .before in
+    let s = start k in
     let a = s .args in
+    let R = s .pre .0 in
     let x = c .before .loop in
-    let e : x .p ≡ endTouched (a .g) (a .offset .0) (length (zeros (a .n))) = rw length-replicate (omega arith) in
-    let h = reads-need (a .g) (a .image .now) (a .index .now) (a .r .0) (a .offset .0) (a .n) (s .pre) in
-    (rw (k .start-in .ensures, e) at (x .inv .3))
-    ∙ written-all (a .g) (blockIn (a .g) (a .index .now) (a .r .0)) (a .offset .0) (zeros (a .n)) (a .image .now) (s .pre .entered .geometry) _
-    (rw length-replicate h)
+    let o = offsetOf (a .g) (a .spot) in
+    let n = a .n in
+    let A = R .entered .geometry in
+    let e : x .at .position .0 ≡ endTouched (a .g) o (length (zeros n)) = rw length-replicate (walk-end A (x .inv .0) (omega arith)) in
+    (rw (k .start-in .ensures, e) at (x .inv .2))
+    ∙ written-all (a .g) (blockIn (a .g) (a .index .now) (a .r .0)) o (zeros (a .n)) (a .image .now) A _
+    (rw length-replicate (reads-need (a .g) (a .image .now) (a .index .now) (a .r .0) o n R))
 
 pub zero-in-spec : {M : Type 1} → statement M
 zero-in-spec =
@@ -148,13 +131,12 @@ zero-in-spec =
     Inv-loop
     μ-loop
     start-in-requires
-    first-touched-requires
-    end-touched-requires
     loop-holds
     stretch-at-requires
     add-zero-part
     zero-part-requires
-    add-p
+    sub-left
+    next-block-requires
     loop-less
     loop-again
     same-length
