@@ -6,7 +6,7 @@ use std::fs;
 use std::path::Path;
 
 use jaaturbal_bench::bytes::{self, Lie, Sheets};
-use jaaturbal_bench::manager::{GROW, LAY, LOAD, OPEN, RECOVER, RECOVER_WIDEST, RELEASE, STORE};
+use jaaturbal_bench::manager::{GROW, LAY, LOAD, MOVE, OPEN, RECOVER, RECOVER_WIDEST, RELEASE, STORE};
 use jaaturbal_bench::report::{Row, page, plot, table};
 use jaaturbal_bench::tables::{self, Ledger};
 use jaaturbal_bench::{leaf, timing::Compared};
@@ -36,7 +36,7 @@ fn main() {
     drop(sheets);
     for (blocks, part) in [(8_192, "a quarter of HOUSE"), (32_768, "a full HOUSE image")] {
         let ledger = RefCell::new(Ledger::drawn(HOUSE, blocks));
-        for call in [LAY, OPEN, GROW, RELEASE, RECOVER] {
+        for call in [LAY, MOVE, OPEN, GROW, RELEASE, RECOVER] {
             measured(call.name.into(), part.into(), tables::measured(&ledger, call));
         }
     }

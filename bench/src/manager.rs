@@ -1,7 +1,7 @@
 //! The two managers, call by call, at HOUSE; and recovery at the widest geometry.
 
 use jaaturbal::calls;
-use jaaturbal_model::paper::{Call, Lent, WIDEST};
+use jaaturbal_model::paper::{self as model, Call, Lent, WIDEST};
 
 use crate::plain::{self, packed};
 
@@ -46,6 +46,23 @@ pub const LAY: Both<TableCall> = Both {
         packed(plain::lay(HOUSE, image, index))
     },
 };
+
+/// An older memory that takes up all of the image but its last block, to which its first goes.
+pub const MOVE: Both<TableCall> = Both {
+    name: "move",
+    proved: |image, index, _| {
+        let pages = older(image);
+        calls::move_over(HOUSE, image, index, pages)
+    },
+    plain: |image, index, _| {
+        let pages = older(image);
+        packed(plain::move_over(HOUSE, image, index, pages))
+    },
+};
+
+fn older(image: &[u8]) -> u64 {
+    (image.len() as u64 / model::HOUSE.block_bytes() - 1) * model::HOUSE.pages
+}
 
 pub const OPEN: Both<TableCall> = Both {
     name: "open",

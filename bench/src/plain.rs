@@ -263,18 +263,15 @@ fn book(g: Geometry, image: &[u8], region: u32) -> Answer<(usize, u64)> {
     }
 }
 
-#[inline(never)]
-pub fn lay(geometry: u32, image: &mut [u8], index: &mut [u8]) -> Answer<u64> {
+/// Refusals 1, 2 and 3.
+fn new_image(geometry: u32, image: &[u8], index: &[u8]) -> Answer<Geometry> {
     let g = Geometry::numbered(geometry)?;
-    if index.len() != g.index_bytes() {
-        return Err(2);
-    }
-    if image.len() < g.block_bytes() {
-        return Err(3);
-    }
-    if image[..16].iter().any(|byte| *byte != 0) {
-        return Err(12);
-    }
+    g.right_length(index)?;
+    if image.len() < g.block_bytes() { Err(3) } else { Ok(g) }
+}
+
+/// A whole reserve, with no block taken.
+fn write_reserve(g: Geometry, image: &mut [u8]) {
     image[..16].copy_from_slice(&[0, 0, 0, 0, 2, 0, 0, 0, 0, 0, 16, 0, 0, 0, 0, 0]);
     let blank = ((g.entries - 1) as u32).to_le_bytes();
     image[16..g.regions_at()].chunks_exact_mut(4).for_each(|entry| entry.copy_from_slice(&blank));
@@ -282,7 +279,33 @@ pub fn lay(geometry: u32, image: &mut [u8], index: &mut [u8]) -> Answer<u64> {
     fixed.fill(0);
     rest.fill(u8::MAX);
     image[g.unused()].fill(0);
+}
+
+#[inline(never)]
+pub fn lay(geometry: u32, image: &mut [u8], index: &mut [u8]) -> Answer<u64> {
+    let g = new_image(geometry, image, index)?;
+    if image[..16].iter().any(|byte| *byte != 0) {
+        return Err(12);
+    }
+    write_reserve(g, image);
     write_index(g, image, index, 0);
+    Ok(0)
+}
+
+#[inline(never)]
+pub fn move_over(geometry: u32, image: &mut [u8], index: &mut [u8], pages: u64) -> Answer<u64> {
+    let g = new_image(geometry, image, index)?;
+    let k = pages.div_ceil(g.pages as u64);
+    if k > g.blocks as u64 || (image.len() / g.block_bytes()) as u64 <= k {
+        return Err(13);
+    }
+    let k = k as usize;
+    image.copy_within(..g.block_bytes(), k * g.block_bytes());
+    write_reserve(g, image);
+    set_u16(image, 8, k);
+    (0..k).for_each(|block| g.set_entry(image, block, 0, (block + 1) % k));
+    g.set_pages(image, 0, pages);
+    write_index(g, image, index, k);
     Ok(0)
 }
 
@@ -480,6 +503,7 @@ pub fn make(geometry: u32, call: Call, lent: Lent<'_>) -> u64 {
     let Lent { image, index, buffer } = lent;
     packed(match call {
         Call::Lay => lay(geometry, image, index),
+        Call::Move { pages } => move_over(geometry, image, index, pages),
         Call::Open => open(geometry, image, index),
         Call::Grow { region, pages } => grow(geometry, image, index, region, pages),
         Call::Load { region, offset } => load(geometry, image, index, region, offset, buffer),

@@ -57,6 +57,7 @@ enum book_refusal {
     BOOK_NO_BLOCKS_LEFT = 10,        /* too few blocks are left for the growth */
     BOOK_NO_REGION_LEFT = 11,        /* every region is open */
     BOOK_NOT_BLANK = 12,             /* lay, and one of the image's first 16 bytes is not zero */
+    BOOK_TOO_FEW_BLOCKS = 13,        /* move, and the image has no block more than the old memory, or the geometry too few */
     BOOK_NEWER_RELEASE = 16          /* recover, and a byte between the tables and the end of the first block is not zero: an image
                                       * of a newer release */
 };
@@ -64,6 +65,13 @@ enum book_refusal {
 /* Writes the header and tables of an image with no books but those that are always there, zeros in the rest of its first block,
  * and its index. Data blocks keep their bytes. Value 0. Checks 1, 2, 3, 12. */
 uint64_t book_lay(uint32_t geometry, uint8_t *image, size_t image_bytes, uint8_t *index, size_t index_bytes);
+
+/* Makes an image of an older memory, which has no header and no tables: so many pages of bytes from the image's first byte on.
+ * They become the book of region 0, byte for byte. The first block is copied past the last one of the memory, and then its place
+ * becomes the header and the tables; the first 16 bytes may hold anything. Bytes past those blocks stay. The image must have one
+ * whole block more than the memory needs. Move a copy: a call that is cut short has not harmed the memory before the copy of its
+ * first block is whole, and afterwards the memory's own first block is gone. Value 0. Checks 1, 2, 3, 13. */
+uint64_t book_move(uint32_t geometry, uint8_t *image, size_t image_bytes, uint8_t *index, size_t index_bytes, uint64_t pages);
 
 /* Opens an empty book. Its region is the value. Checks 1 to 7, 11. */
 uint64_t book_open(uint32_t geometry, uint8_t *image, size_t image_bytes, uint8_t *index, size_t index_bytes);

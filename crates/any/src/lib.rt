@@ -3,6 +3,7 @@
 ghost use mathlib.Core.Path.{_≡_};
 ghost use mathlib.Core.List.{[]};
 ghost use Rattle.paper.specs.Calls.{lay, «open», grow, load, store, size, release, recover};
+ghost use Rattle.paper.specs.Move.{moveOutcome};
 ghost use Rattle.paper.specs.Outcomes.{lent, outcome};
 ghost use Rattle.host.specs.Host.{sees, hostSees};
 ghost use Rattle.any.specs.Any.{given};
@@ -35,6 +36,26 @@ pub extern "C" fn any_lay(
     ensures { λ n. ⌜ sees n [] (lent (now (image .exit)) (now (index .exit))) ≡ hostSees (outcome (given page pages blocks entries) lay (lent (now (image .entry)) (now (index .entry)))) ⌝ }
 {
     host::pack(laying::lay(given(page, pages, blocks, entries), image, index))
+}
+
+#[no_mangle]
+pub extern "C" fn any_move(
+    page: u64,
+    pages: u64,
+    blocks: u64,
+    entries: u64,
+    image: &mut [u8],
+    index: &mut [u8],
+    old: u64,
+) -> u64
+    ensures { λ n. ⌜ sees n [] (lent (now (image .exit)) (now (index .exit))) ≡ hostSees (moveOutcome (given page pages blocks entries) old (lent (now (image .entry)) (now (index .entry)))) ⌝ }
+{
+    host::pack(moving::move_over(
+        given(page, pages, blocks, entries),
+        image,
+        index,
+        Pages(old),
+    ))
 }
 
 #[no_mangle]

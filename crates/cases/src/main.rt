@@ -1,4 +1,4 @@
-// The bench table through the compiled calls: a line for each case, with seven of the house after them.
+// The bench table through the compiled calls: a line for each case, with eight of the house after them.
 // The table is walked row by row, and a case holds where each of its rows does.
 use libc::STDOUT_FILENO;
 use paper::Answer;
@@ -44,6 +44,9 @@ const HAS2: u64 = 13;
 const HAS4: u64 = 14;
 
 const INDEX: u64 = 15;
+
+// A move of an older memory of so many pages is a call too.
+const MOVE: u64 = 16;
 
 // The columns of a row, in their order. The number is pages, an offset, or the bytes of a copy.
 const CASE: usize = 0;
@@ -278,6 +281,33 @@ const CASE_19: [[u64; 7]; 20] = [
     [19, RECOVER, 0, 8704, 0, 0, 0],
 ];
 
+const CASE_20: [[u64; 7]; 23] = [
+    // An older memory of 17 pages: its first block goes behind its third, and region 0 reads as it did.
+    [20, ZERO, 0, 0, 0, 0, 0],
+    [20, PUT, 0, 0, 0, 0, 0x11],
+    [20, PUT, 0, 272, 0, 0, 0x22],
+    [20, PUT, 0, 511, 0, 0, 0x33],
+    [20, PUT, 0, 512, 0, 0, 0x44],
+    [20, PUT, 0, 1087, 0, 0, 0x55],
+    [20, PUT, 0, 2048, 0, 0, 0x66],
+    [20, MOVE, 0, 129, 0, 13, 0],
+    [20, MOVE, 0, 17, 0, 0, 0],
+    [20, HAS2, 0, 8, 1, 0, 3],
+    [20, HAS4, 0, 16, 1, 0, 0x00010000],
+    [20, HAS4, 0, 20, 1, 0, 0x00020000],
+    [20, HAS4, 0, 24, 1, 0, 0x00000000],
+    [20, HAS1, 0, 272, 240, 0, 0],
+    [20, HAS1, 0, 2048, 1, 0, 0x66],
+    [20, SIZE, 0, 0, 0, 0, 17],
+    [20, LOAD, 0, 0, 1, 0, 0x11],
+    [20, LOAD, 0, 272, 1, 0, 0x22],
+    [20, LOAD, 0, 511, 2, 0, 0x4433],
+    [20, LOAD, 0, 1087, 1, 0, 0x55],
+    [20, RECOVER, 0, 8704, 0, 0, 0],
+    [20, GROW, 0, 1, 0, 0, 17],
+    [20, LOAD, 0, 511, 2, 0, 0x4433],
+];
+
 // For a row that is no call, or loads or stores more bytes than there are for it.
 const ODD: u8 = 99;
 
@@ -304,6 +334,7 @@ fn number(part: &[u8]) -> u64 {
 fn table_call(image: &mut [u8], index: &mut [u8], row: [u64; 7]) -> Answer {
     match row[DOES] {
         LAY => laying::lay(G, image, index),
+        MOVE => moving::move_over(G, image, index, Pages(row[NUMBER])),
         OPEN => books::open(G, image, index),
         GROW => books::grow(G, image, index, region(row), Pages(row[NUMBER])),
         RELEASE => books::release(G, image, index, region(row)),
@@ -533,6 +564,10 @@ fn case_19(image: &mut [u8], index: &mut [u8]) {
     walk(image, index, 19, &CASE_19);
 }
 
+fn case_20(image: &mut [u8], index: &mut [u8]) {
+    walk(image, index, 20, &CASE_20);
+}
+
 fn main() {
     let mut image = [0u8; 8704];
     let mut index = [0u8; 82];
@@ -546,4 +581,5 @@ fn main() {
     case_17(&mut image, &mut index);
     case_18(&mut image, &mut index);
     case_19(&mut image, &mut index);
+    case_20(&mut image, &mut index);
 }

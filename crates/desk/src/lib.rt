@@ -9,7 +9,7 @@ ghost use Rattle.paper.specs.Calls.{size};
 ghost use Rattle.paper.specs.Refusals.{usable};
 ghost use Rattle.paper.specs.Outcomes.{lent, gives, outcome};
 ghost use Rattle.rules.specs.Facts.{Readable, Headed};
-ghost use Rattle.rules.specs.Lines.{headNo, wholeNo, bookNo, indexedHeadNo, enteredNo};
+ghost use Rattle.rules.specs.Lines.{headNo, wholeNo, bookNo, lentNo, indexedHeadNo, enteredNo};
 use paper::Answer;
 use paper::Block;
 use paper::Geometry;
@@ -41,6 +41,8 @@ pub const NO_REGION: u8 = 11;
 
 pub const NOT_BLANK: u8 = 12;
 
+pub const TOO_FEW_BLOCKS: u8 = 13;
+
 pub const NEWER: u8 = 16;
 
 // ---- shared refusals: 0 where none applies
@@ -57,6 +59,22 @@ pub fn head(g: Geometry, image: &[u8]) -> u8
     }
     if !image::header_right(g, image) {
         return HEADER;
+    }
+    0
+}
+
+// 1, 2, 3.
+pub fn lent(g: Geometry, image: &[u8], index: &[u8]) -> u8
+    ensures { λ k. ⌜ k ≡ lentNo g (now (image .entry)) (now (index .entry)) ⌝ }
+{
+    if !g.allowed() {
+        return GEOMETRY;
+    }
+    if index.len() != g.index_bytes() {
+        return INDEX_LENGTH;
+    }
+    if image.len() < g.block_bytes() {
+        return IMAGE_SHORT;
     }
     0
 }

@@ -79,7 +79,7 @@ module _ (g : Geometry) where
       })
 
   -- ---- any calls
-  sound-after : (bytes : ℕ) (cs : List Call) (m : Moment) → Sound g bytes (m .state) (m .books) → Sound g bytes (after g cs m .state) (after g cs m .books)
+  pub sound-after : (bytes : ℕ) (cs : List Call) (m : Moment) → Sound g bytes (m .state) (m .books) → Sound g bytes (after g cs m .state) (after g cs m .books)
   unfolding after
   sound-after bytes [] m S = S
   sound-after bytes (c ∷ cs) m S = sound-after bytes cs _ (sound-next g bytes (m .state) (m .books) S c)

@@ -7,23 +7,41 @@ use mathlib.Core.List.{List}
 use native.Mathlib.Omega.{arith}
 use native.Mathlib.Decide.{ℕ-discrete}
 use lib.Arith.{digits-div, digits-mod}
+use lib.IntN.{pos}
 use Rattle.paper.specs.declared.Geometry.{Geometry}
 use Rattle.paper.specs.declared.Answer.{Answer}
 use Rattle.paper.specs.Geometry.{blockBytes, allowed, Allowed, mostBookPages}
 use Rattle.paper.specs.Image.{front, pagesOf}
 use Rattle.paper.specs.Calls.{Call, lay, «open», grow, load, store, look, size, release, recover}
 use Rattle.paper.specs.Refusals.{refusal}
+use Rattle.paper.specs.Move.{moveRefusal, moveOutcome}
 use Rattle.paper.specs.Outcomes.{valueOf, State, gives, outcome}
 use Rattle.paper.proofs.Arithmetic.{book-pages-bound}
 use Rattle.rules.proofs.Outcomes.{outcome-number, outcome-paper}
 use Rattle.host.specs.Host.{noGeometry, geometryOf, valueEnd, inBits56, packed, HostSees, sees, hostSees}
-use Rattle.rules.proofs.Lines.{open-accepted, grow-accepted, size-accepted, refused-1, refused, lay-done, open-done, grow-done, release-done, load-done, store-done, look-done, size-done, recover-done}
+use Rattle.rules.proofs.Lines.{open-accepted, grow-accepted, size-accepted, refused-1, refused, move-done, move-refused, lay-done, open-done, grow-done, release-done, load-done, store-done, look-done, size-done, recover-done}
 use Rattle.rules.proofs.Usable.{usable-facts}
 
 -- the number is the answer's, the geometry is the one named, and the call kept its promise
 pub host-sees : {n : ℕ} {a : Answer} {bytes : List ℕ} {s : State} {g h : Geometry} (c : Call) (t : State)
     → n ≡ packed a → g ≡ h → gives a bytes s ≡ outcome g c t → sees n bytes s ≡ hostSees (outcome h c t)
 host-sees {n} {a} {bytes} {s} {g} {h} c t e d f = ap (λ k. sees k bytes s) e ∙ ap hostSees (f ∙ ap (λ g. outcome g c t) d)
+
+-- so did the move
+pub host-sees-move : {n : ℕ} {a : Answer} {bytes : List ℕ} {s : State} {g h : Geometry} (m : ℕ) (t : State)
+    → n ≡ packed a → g ≡ h → gives a bytes s ≡ moveOutcome g m t → sees n bytes s ≡ hostSees (moveOutcome h m t)
+host-sees-move {n} {a} {bytes} {s} {g} {h} m t e d f = ap (λ k. sees k bytes s) e ∙ ap hostSees (f ∙ ap (λ g. moveOutcome g m t) d)
+
+-- its value is 0, and two outcomes that its promise allows are equal
+pub move-value : (g : Geometry) (n : ℕ) (s : State) → moveOutcome g n s .value ≡ pos 0
+move-value g n s = go (ℕ-discrete (moveRefusal g n (s .image) (s .index)) 0)
+  where
+    go : Dec (moveRefusal g n (s .image) (s .index) ≡ 0) → moveOutcome g n s .value ≡ pos 0
+    go (yes e) = rw (move-done g n s e)
+    go (no ne) = rw (move-refused g n s (moveRefusal g n (s .image) (s .index)) refl ne)
+
+pub one-moved : (g : Geometry) (n : ℕ) (s : State) (x y : HostSees) → x ≡ hostSees (moveOutcome g n s) → y ≡ hostSees (moveOutcome g n s) → x ≡ y
+one-moved g n s x y p q = p ∙ sym q
 
 -- two outcomes that one promise allows are equal
 pub one-seen : (g : Geometry) (c : Call) (s : State) (x y : HostSees) → x ≡ hostSees (outcome g c s) → y ≡ hostSees (outcome g c s) → x ≡ y

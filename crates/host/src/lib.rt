@@ -2,6 +2,7 @@
 ghost use mathlib.Core.Path.{_≡_};
 ghost use mathlib.Core.List.{[]};
 ghost use Rattle.paper.specs.Calls.{lay, «open», grow, load, store, size, release, recover};
+ghost use Rattle.paper.specs.Move.{moveOutcome};
 ghost use Rattle.paper.specs.Outcomes.{lent, outcome};
 ghost use Rattle.host.specs.Host.{geometryOf, packed, sees, hostSees};
 use paper::Answer;
@@ -46,6 +47,13 @@ pub extern "C" fn book_lay(geometry: u32, image: &mut [u8], index: &mut [u8]) ->
     ensures { λ n. ⌜ sees n [] (lent (now (image .exit)) (now (index .exit))) ≡ hostSees (outcome (geometryOf geometry) lay (lent (now (image .entry)) (now (index .entry)))) ⌝ }
 {
     pack(laying::lay(geometry_of(geometry), image, index))
+}
+
+#[no_mangle]
+pub extern "C" fn book_move(geometry: u32, image: &mut [u8], index: &mut [u8], pages: u64) -> u64
+    ensures { λ n. ⌜ sees n [] (lent (now (image .exit)) (now (index .exit))) ≡ hostSees (moveOutcome (geometryOf geometry) pages (lent (now (image .entry)) (now (index .entry)))) ⌝ }
+{
+    pack(moving::move_over(geometry_of(geometry), image, index, Pages(pages)))
 }
 
 #[no_mangle]

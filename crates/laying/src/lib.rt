@@ -1,33 +1,35 @@
-// The call that lays an empty image.
+// The reserve of a new image, empty or of one book; and the call that lays an empty one.
 ghost use mathlib.Core.Path.{_≡_};
 ghost use mathlib.Core.List.{[]};
 ghost use Prim.Native.Nat.{_+_, _^_, _≤_, _<_};
 ghost use lib.ListN.{length};
 ghost use Rattle.laws.specs.Folds.{joinBelow};
 ghost use Rattle.laws.specs.Bytes.{splice, put};
-ghost use Rattle.paper.specs.Geometry.{headerBytes, version, fixedRegions, noRegion, sizeAt};
+ghost use Rattle.paper.specs.Geometry.{headerBytes, version, fixedRegions, Allowed, need, sizeAt};
 ghost use Rattle.paper.specs.Image.{blanked, coded, writtenHeader, entryRow, sizeRow};
 ghost use Rattle.paper.specs.Index.{emptyIndex};
-ghost use Rattle.paper.specs.Calls.{lay, laidSize, laid};
+ghost use Rattle.paper.specs.Calls.{lay, laidSize};
+ghost use Rattle.paper.specs.Move.{movedOwner, movedPlace, movedSize, movedFront};
 ghost use Rattle.paper.specs.Refusals.{blank, refusal};
 ghost use Rattle.paper.specs.Outcomes.{lent, gives, outcome};
 ghost use Rattle.rules.specs.Facts.{Readable, Indexed, fronted};
 use paper::Answer;
 use paper::Block;
 use paper::Geometry;
+use paper::Pages;
 use paper::Position;
 use paper::Region;
 
 // ---- header and tables
 
-// N is 0, and C the first region that can be opened.
-fn write_header(image: &mut [u8])
+// C is the first region that can be opened.
+fn write_header(image: &mut [u8], taken: u16)
     requires { ⌜ headerBytes ≤ length (now image) ⌝ }
-    ensures { λ _. ⌜ now (image .exit) ≡ splice 0 (writtenHeader version 0 fixedRegions) (now (image .entry)) ⌝ }
+    ensures { λ _. ⌜ now (image .exit) ≡ splice 0 (writtenHeader version taken fixedRegions) (now (image .entry)) ⌝ }
 {
     numbers::write_u32(image, paper::MARKER_AT, 0);
     numbers::write_u32(image, paper::VERSION_AT, paper::VERSION);
-    numbers::write_u16(image, paper::TAKEN_AT, 0);
+    numbers::write_u16(image, paper::TAKEN_AT, taken);
     numbers::write_u16(image, paper::COUNTER_AT, paper::FIXED_REGIONS as u16);
     numbers::write_u32(image, paper::BLANK_AT, 0);
 }
@@ -40,14 +42,39 @@ fn write_entry(image: &mut [u8], at: usize, r: Region, p: Position)
     numbers::write_u16(image, at + 2, p.0 as u16);
 }
 
-// No block is taken: each holds region E-1, position 0.
-fn write_blocks(g: Geometry, image: &mut [u8])
-    requires { ⌜ Readable g (now image) ⌝ }
-    ensures { λ _. ⌜ now (image .exit) ≡ splice headerBytes (joinBelow (g .blocks) (entryRow (λ b. noRegion g) (λ b. 0))) (now (image .entry)) ⌝ }
+// Of the blocks taken, all the old anonymous book's, the last stands first. A block that is not taken holds region E-1, position 0.
+fn new_owner(g: Geometry, taken: u16, b: Block) -> Region
+    requires { ⌜ Allowed g ⌝ }
+    ensures { λ r. ⌜ r .0 ≡ movedOwner g taken (b .0) ⌝ }
 {
-    let none = g.no_region();
-    for b in 0..g.blocks {
-        write_entry(image, g.entry_at(Block(b as u16)), none, Position(0));
+    if b.0 < taken {
+        return paper::ANONYMOUS;
+    }
+    g.no_region()
+}
+
+fn new_place(taken: u16, b: Block) -> Position
+    ensures { λ p. ⌜ p .0 ≡ movedPlace taken (b .0) ⌝ }
+{
+    let next = b.0 as usize + 1;
+    if next < taken as usize {
+        return Position(next);
+    }
+    Position(0)
+}
+
+fn write_blocks(g: Geometry, image: &mut [u8], taken: u16)
+    requires { ⌜ Readable g (now image) ⌝ }
+    ensures { λ _. ⌜ now (image .exit) ≡ splice headerBytes (joinBelow (g .blocks) (entryRow (movedOwner g taken) (movedPlace taken))) (now (image .entry)) ⌝ }
+{
+    for i in 0..g.blocks {
+        let b = Block(i as u16);
+        write_entry(
+            image,
+            g.entry_at(b),
+            new_owner(g, taken, b),
+            new_place(taken, b),
+        );
     }
 }
 
@@ -61,23 +88,34 @@ fn laid_size(r: Region) -> u64
     paper::ALL_ONES
 }
 
-fn write_regions(g: Geometry, image: &mut [u8])
+// The old anonymous book has so many pages.
+fn new_size(r: Region, pages: Pages) -> u64
+    ensures { λ n. ⌜ n ≡ coded (movedSize (pages .0) (r .0)) ⌝ }
+{
+    if r.0 == paper::ANONYMOUS.0 {
+        return pages.0;
+    }
+    laid_size(r)
+}
+
+fn write_regions(g: Geometry, image: &mut [u8], pages: Pages)
     requires { ⌜ Readable g (now image) ⌝ }
-    ensures { λ _. ⌜ now (image .exit) ≡ splice (sizeAt g 0) (joinBelow (g .entries) (sizeRow laidSize)) (now (image .entry)) ⌝ }
+    ensures { λ _. ⌜ now (image .exit) ≡ splice (sizeAt g 0) (joinBelow (g .entries) (sizeRow (movedSize (pages .0)))) (now (image .entry)) ⌝ }
 {
     for r in 0..g.entries {
         let region = Region(r as u32);
-        numbers::write_u64(image, g.size_at(region), laid_size(region));
+        numbers::write_u64(image, g.size_at(region), new_size(region, pages));
     }
 }
 
-fn write_tables(g: Geometry, image: &mut [u8])
-    requires { ⌜ Readable g (now image) ⌝ }
-    ensures { λ _. ⌜ now (image .exit) ≡ fronted g (laid g) (now (image .entry)) ⌝ }
+fn write_tables(g: Geometry, image: &mut [u8], pages: Pages)
+    requires { ⌜ Readable g (now image) × (need g (pages .0) ≤ g .blocks) ⌝ }
+    ensures { λ _. ⌜ now (image .exit) ≡ fronted g (movedFront g (pages .0)) (now (image .entry)) ⌝ }
 {
-    write_header(image);
-    write_blocks(g, image);
-    write_regions(g, image);
+    let taken = g.need(pages) as u16;
+    write_header(image, taken);
+    write_blocks(g, image, taken);
+    write_regions(g, image, pages);
 }
 
 // ---- the rest of the reserve
@@ -90,13 +128,13 @@ fn blank_unused(g: Geometry, image: &mut [u8])
     numbers::zero_part(image, g.front_bytes(), g.block_bytes());
 }
 
-// The zeros come first: cut short after them, the image is still one to lay.
-fn write_reserve(g: Geometry, image: &mut [u8])
-    requires { ⌜ Readable g (now image) ⌝ }
-    ensures { λ _. ⌜ now (image .exit) ≡ fronted g (laid g) (blanked g (now (image .entry))) ⌝ }
+// The old anonymous book has so many pages, in the first data blocks. The zeros come first: cut short after them, the image is still one to lay.
+pub fn write_reserve(g: Geometry, image: &mut [u8], pages: Pages)
+    requires { ⌜ Readable g (now image) × (need g (pages .0) ≤ g .blocks) ⌝ }
+    ensures { λ _. ⌜ now (image .exit) ≡ fronted g (movedFront g (pages .0)) (blanked g (now (image .entry))) ⌝ }
 {
     blank_unused(g, image);
-    write_tables(g, image);
+    write_tables(g, image, pages);
 }
 
 // ---- the empty index
@@ -126,14 +164,9 @@ fn blank(g: Geometry, image: &[u8]) -> bool
 fn lay_refusal(g: Geometry, image: &[u8], index: &[u8]) -> u8
     ensures { λ k. ⌜ k ≡ refusal g (now (image .entry)) (now (index .entry)) lay ⌝ }
 {
-    if !g.allowed() {
-        return desk::GEOMETRY;
-    }
-    if index.len() != g.index_bytes() {
-        return desk::INDEX_LENGTH;
-    }
-    if image.len() < g.block_bytes() {
-        return desk::IMAGE_SHORT;
+    let no = desk::lent(g, image, index);
+    if no != 0 {
+        return no;
     }
     if !blank(g, image) {
         return desk::NOT_BLANK;
@@ -150,7 +183,7 @@ pub fn lay(g: Geometry, image: &mut [u8], index: &mut [u8]) -> Answer
     if no != 0 {
         return Answer::Refused(no);
     }
-    write_reserve(g, image);
+    write_reserve(g, image, Pages(0));
     write_empty_index(g, index);
     Answer::Done(0)
 }

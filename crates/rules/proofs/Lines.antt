@@ -1,13 +1,14 @@
 -- The lines of "Order of checks": what each check asks, what a line's beginning has shown, which number each call answers and when, and what it
 -- leaves when it is done. Only this file opens `checks` and `accepted`.
-use Prim.Native.Nat.{ℕ, _+_, _-_, _*_, _≤_, _<_}
+use Prim.Native.Nat.{ℕ, _+_, _-_, _*_, _/_, _≤_, _<_}
 use mathlib.Core.Bool.{true, false, not, _||_, cond}
 use mathlib.Core.Logic.{_≢_, _↔_}
 use mathlib.Core.Path.{_≡_, refl, sym, _∙_}
 use mathlib.Core.List.{List, [], _∷_, _++_}
 use native.Mathlib.Omega.{arith}
+use native.Mathlib.Decide.{ℕ-discrete}
 use borrow.Author.Tests.{eqb-true, eqb-false, eq-eqb, ne-eqb, ltb-false, le-ltb, leb-true, leb-false, le-leb, lt-leb, not-true, not-false}
-use lib.Dec.{eqb, leb}
+use lib.Dec.{eqb, leb, ltb}
 use lib.ListN.{getD, length}
 use lib.Seq.{getD-take}
 use Rattle.laws.proofs.Tests.{clash, and-parts, and-true, or-false, or-parts-false, not-of-true}
@@ -16,17 +17,18 @@ use Rattle.laws.proofs.Lists.{same-refl, same-eq}
 use Rattle.laws.specs.Bytes.{same}
 use Rattle.paper.specs.declared.Geometry.{Geometry}
 use Rattle.paper.specs.declared.Answer.the-variants.{Done, Refused}
-use Rattle.paper.specs.Geometry.{headerBytes, fixedRegions, reclaimed, blockBytes, allowed, Allowed, noRegion, capacity, mostBookPages, frontBytes, indexBytes}
+use Rattle.paper.specs.Geometry.{headerBytes, fixedRegions, reclaimed, blockBytes, allowed, Allowed, noRegion, need, capacity, mostBookPages, frontBytes, indexBytes}
 use Rattle.paper.specs.Image.{front, rest, blanked, stamp, taken, counter, pagesOf, needOf}
 use Rattle.paper.specs.WellFormed.{inOrder}
 use Rattle.paper.specs.Index.{indexOf, emptyIndex, blockIn}
 use Rattle.paper.specs.Calls.{Call, lay, «open», grow, load, store, look, size, release, recover, laid, nextRegion, opened, loaded, stored, newBlocks, grown, lookBytes, released}
 use Rattle.paper.specs.Refusals.{Check, first, headerRight, touchedRight, usable, blank, unusedBlank, no1, no2, no3, no4, no5, no6, no6of, no7, no7of, no8, no8release, no9, no10, no11, no12, no16, to4, to5, to7, ofBook, checks, refusal, wellFormed}
+use Rattle.paper.specs.Move.{movedFront, movedImage, no13, moveRefusal, moveOutcome}
 use Rattle.paper.specs.Outcomes.{numberOf, valueOf, State, lent, gives, tabled, accepted, buffer, outcome}
-use Rattle.paper.proofs.Arithmetic.{allowed-facts, facts-allowed}
-use Rattle.rules.specs.Facts.{Rules, Header, Formed, Readable, Headed, Whole, Entered, Ordered, Reads}
+use Rattle.paper.proofs.Arithmetic.{allowed-facts, facts-allowed, whole-block}
+use Rattle.rules.specs.Facts.{Rules, Header, Formed, Readable, Headed, Whole, Entered, Ordered, Reads, Movable}
 use Rattle.rules.specs.Unused.{inspects}
-use Rattle.rules.specs.Lines.{headNo, wholeNo, bookNo, indexedHeadNo, enteredNo, orderedNo, readNo}
+use Rattle.rules.specs.Lines.{headNo, wholeNo, bookNo, lentNo, indexedHeadNo, enteredNo, orderedNo, readNo}
 use Rattle.rules.proofs.Cells.{stamp-version, length-front}
 use Rattle.rules.proofs.Facts.{order-rules, rules-order}
 use Rattle.rules.proofs.Index.{length-index}
@@ -112,6 +114,12 @@ module _ (g : Geometry) (image index : List ℕ) where
 
   ask16 : Passes (no16 g image index) (unusedBlank g image ≡ true)
   ask16 = record { fine = λ b. not-of-true b; shows = λ e. not-false _ e }
+
+  ask13 : (n : ℕ) → Passes (no13 g n image index) ((need g n + 1 ≤ length image / blockBytes g) × (need g n ≤ g .blocks))
+  ask13 n = record {
+    fine = λ p. or-false (le-ltb _ _ (p .0)) (le-ltb _ _ (p .1));
+    shows = λ e. let p = or-parts-false (ltb (length image / blockBytes g) (need g n + 1)) _ e in (ltb-false _ _ (p .0), ltb-false _ _ (p .1));
+  }
 
 -- ---- checks 3, 4, 16, 5, 6: an image is well-formed exactly where it is long enough for the reserve, its front is in order and the rest of its
 -- reserve blank
@@ -227,6 +235,37 @@ module _ (g : Geometry) (image : List ℕ) where
 module _ (g : Geometry) (image index : List ℕ) where
   abbrev front4 : List Check
   front4 = to4 g image index []
+
+  -- 1, 2, 3
+  pub lent-shown : lentNo g image index ≡ 0 → Readable g image × (length index ≡ indexBytes g)
+  unfolding lentNo
+  lent-shown e =
+      let f1 = shown (ask1 g image index) _ (omega arith) e in
+      let f2 = shown (ask2 g image index) _ (omega arith) (f1 .1) in
+      let f3 = shown (ask3 g image index) _ (omega arith) (f2 .1) in
+      (record { allowed = f1 .0; long = f3 .0 }, f2 .0)
+
+  pub lent-1 : allowed g ≡ false → lentNo g image index ≡ 1
+  unfolding lentNo
+  lent-1 a = halt (ask1 g image index) _ (λ A. clash (allowed g) (facts-allowed g A) a)
+
+  module _ (A : Allowed g) where
+    pub lent-2 : length index ≢ indexBytes g → lentNo g image index ≡ 2
+    unfolding lentNo
+    lent-2 ne = pass (ask1 g image index) _ A ∙ halt (ask2 g image index) _ ne
+
+    module _ (i : length index ≡ indexBytes g) where
+      pub lent-3 : length image < blockBytes g → lentNo g image index ≡ 3
+      unfolding lentNo
+      lent-3 l = pass (ask1 g image index) _ A ∙ pass (ask2 g image index) _ i ∙ halt (ask3 g image index) _ (λ h. omega arith)
+
+      pub lent-0 : blockBytes g ≤ length image → lentNo g image index ≡ 0
+      unfolding lentNo
+      lent-0 l = pass (ask1 g image index) _ A ∙ pass (ask2 g image index) _ i ∙ pass (ask3 g image index) _ l ∙ first-nil
+
+  pass3 : Readable g image → length index ≡ indexBytes g → (later : List Check)
+      → first (no1 g image index ∷ no2 g image index ∷ no3 g image index ∷ later) ≡ first later
+  pass3 R i later = pass (ask1 g image index) _ (R .allowed) ∙ pass (ask2 g image index) _ i ∙ pass (ask3 g image index) _ (R .long)
 
   -- 1 to 4: 3 and 4 are those of the image alone
   pub indexed-head-1 : allowed g ≡ false → indexedHeadNo g image index ≡ 1
@@ -363,32 +402,46 @@ module _ (g : Geometry) (image index : List ℕ) where
       let f12 = shown (ask12 g image index) _ (omega arith) (f3 .1) in
       (f1 .0, f2 .0, f3 .0, f12 .0)
 
-  pub lay-1 : allowed g ≡ false → refusal g image index lay ≡ 1
-  unfolding checks
-  lay-1 a = halt (ask1 g image index) _ (λ A. clash (allowed g) (facts-allowed g A) a)
+  pub lay-stop : (k : ℕ) → k ≡ lentNo g image index → k ≢ 0 → refusal g image index lay ≡ k
+  unfolding lentNo checks
+  lay-stop k e ne = first-stop (no1 g image index ∷ no2 g image index ∷ no3 g image index ∷ []) (no12 g image index ∷ []) refl k (sym e) ne
 
-  module _ (A : Allowed g) where
-    pub lay-2 : length index ≢ indexBytes g → refusal g image index lay ≡ 2
+  module _ (R : Readable g image) (i : length index ≡ indexBytes g) where
+    pub lay-12 : blank g image ≡ false → refusal g image index lay ≡ 12
     unfolding checks
-    lay-2 ne = pass (ask1 g image index) _ A ∙ halt (ask2 g image index) _ ne
+    lay-12 b = pass3 g image index R i (no12 g image index ∷ []) ∙ halt (ask12 g image index) _ (λ h. clash (blank g image) h b)
 
-    module _ (i : length index ≡ indexBytes g) where
-      pub lay-3 : length image < blockBytes g → refusal g image index lay ≡ 3
-      unfolding checks
-      lay-3 l = pass (ask1 g image index) _ A ∙ pass (ask2 g image index) _ i ∙ halt (ask3 g image index) _ (λ h. omega arith)
+    pub lay-0 : blank g image ≡ true → refusal g image index lay ≡ 0
+    unfolding checks
+    lay-0 b = pass3 g image index R i (no12 g image index ∷ []) ∙ pass (ask12 g image index) _ b ∙ first-nil
 
-      module _ (long : blockBytes g ≤ length image) where
-        pub lay-12 : blank g image ≡ false → refusal g image index lay ≡ 12
-        unfolding checks
-        lay-12 b =
-            pass (ask1 g image index) _ A ∙ pass (ask2 g image index) _ i ∙ pass (ask3 g image index) _ long
-            ∙ halt (ask12 g image index) _ (λ h. clash (blank g image) h b)
+  -- ---- a move: 1, 2, 3, 13
+  module _ (n : ℕ) where
+    pub move-accepted : moveRefusal g n image index ≡ 0 → Movable g n image index
+    unfolding moveRefusal
+    move-accepted e =
+        let f1 = shown (ask1 g image index) _ (omega arith) e in
+        let f2 = shown (ask2 g image index) _ (omega arith) (f1 .1) in
+        let f3 = shown (ask3 g image index) _ (omega arith) (f2 .1) in
+        let f13 = shown (ask13 g image index n) _ (omega arith) (f3 .1) .0 in
+        record { readable = record { allowed = f1 .0; long = f3 .0 }; indexed = f2 .0; whole = f13 .0; most = f13 .1 }
 
-        pub lay-0 : blank g image ≡ true → refusal g image index lay ≡ 0
-        unfolding checks
-        lay-0 b =
-            pass (ask1 g image index) _ A ∙ pass (ask2 g image index) _ i ∙ pass (ask3 g image index) _ long
-            ∙ pass (ask12 g image index) _ b ∙ first-nil
+    pub move-stop : (k : ℕ) → k ≡ lentNo g image index → k ≢ 0 → moveRefusal g n image index ≡ k
+    unfolding lentNo moveRefusal
+    move-stop k e ne = first-stop (no1 g image index ∷ no2 g image index ∷ no3 g image index ∷ []) (no13 g n image index ∷ []) refl k (sym e) ne
+
+    -- where the lent bytes are right, 13 is "K below k"
+    module _ (R : Readable g image) (i : length index ≡ indexBytes g) where
+      pub move-13 : capacity g (length image) < need g n → moveRefusal g n image index ≡ 13
+      unfolding moveRefusal capacity
+      move-13 l =
+          pass3 g image index R i (no13 g n image index ∷ []) ∙ halt (ask13 g image index n) _ (λ p. omega (arith, p .0, p .1))
+
+      pub move-0 : need g n ≤ capacity g (length image) → moveRefusal g n image index ≡ 0
+      unfolding moveRefusal capacity
+      move-0 l =
+          let one : 1 ≤ length image / blockBytes g = whole-block g (R .allowed) (length image) (R .long) in
+          pass3 g image index R i (no13 g n image index ∷ []) ∙ pass (ask13 g image index n) _ (omega arith, omega arith) ∙ first-nil
 
   -- ---- recover: 1 to 4, 16, 5, 6
   abbrev recovering : List Check
@@ -689,6 +742,24 @@ module _ (g : Geometry) (c : Call) (s : State) where
   pub refused : (k : ℕ) → refusal g (s .image) (s .index) c ≡ k → k ≢ 0 → outcome g c s ≡ gives (Refused k) (buffer g c) s
   unfolding outcome
   refused k e ne = rw (e, ne-eqb k 0 ne)
+
+-- a move refused, and one that is done
+module _ (g : Geometry) (n : ℕ) (s : State) where
+  pub move-done : moveRefusal g n (s .image) (s .index) ≡ 0
+      → moveOutcome g n s ≡ gives (Done 0) [] (lent (movedImage g n (s .image)) (indexOf g (movedFront g n)))
+  unfolding moveOutcome
+  move-done e = rw e
+
+  pub move-refused : (k : ℕ) → moveRefusal g n (s .image) (s .index) ≡ k → k ≢ 0 → moveOutcome g n s ≡ gives (Refused k) [] s
+  unfolding moveOutcome
+  move-refused k e ne = rw (e, ne-eqb k 0 ne)
+
+  pub move-number : numberOf (moveOutcome g n s .answer) ≡ moveRefusal g n (s .image) (s .index)
+  move-number = go (ℕ-discrete (moveRefusal g n (s .image) (s .index)) 0)
+    where
+      go : Dec (moveRefusal g n (s .image) (s .index) ≡ 0) → numberOf (moveOutcome g n s .answer) ≡ moveRefusal g n (s .image) (s .index)
+      go (yes e) = rw (move-done e) (sym e)
+      go (no ne) = rw (move-refused (moveRefusal g n (s .image) (s .index)) refl ne)
 
 module _ (g : Geometry) (s : State) where
   pub lay-done : refusal g (s .image) (s .index) lay ≡ 0 → outcome g lay s ≡ gives (Done 0) [] (lent (laid g ++ rest g (blanked g (s .image))) (emptyIndex g))

@@ -2,7 +2,7 @@
 use Prim.Native.Nat.{ℕ}
 use mathlib.Core.List.{List, [], _∷_}
 use Rattle.paper.specs.declared.Geometry.{Geometry}
-use Rattle.paper.specs.Refusals.{first, no1, no3, no4, no5, to4, to5, to7, ofBook, reading}
+use Rattle.paper.specs.Refusals.{first, no1, no2, no3, no4, no5, to4, to5, to7, ofBook, reading}
 
 -- ---- without an index, as size asks
 module _ (g : Geometry) (image : List ℕ) where
@@ -20,6 +20,10 @@ module _ (g : Geometry) (image : List ℕ) where
 
 -- ---- with one
 module _ (g : Geometry) (image index : List ℕ) where
+  -- 1, 2, 3
+  unfoldable pub lentNo : ℕ
+  lentNo = first (no1 g image index ∷ no2 g image index ∷ no3 g image index ∷ [])
+
   -- 1 to 4
   unfoldable pub indexedHeadNo : ℕ
   indexedHeadNo = first (to4 g image index [])

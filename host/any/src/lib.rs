@@ -14,6 +14,17 @@ mod proved {
             index: *mut u8,
             index_bytes: usize,
         ) -> u64;
+        pub fn any_move(
+            page: u64,
+            pages: u64,
+            blocks: u64,
+            entries: u64,
+            image: *mut u8,
+            image_bytes: usize,
+            index: *mut u8,
+            index_bytes: usize,
+            old: u64,
+        ) -> u64;
         pub fn any_open(
             page: u64,
             pages: u64,
@@ -107,6 +118,7 @@ pub fn make(geometry: Geometry, call: Call, lent: Lent<'_>) -> u64 {
     unsafe {
         match call {
             Call::Lay => proved::any_lay(s, p, b, e, image, image_bytes, index, index_bytes),
+            Call::Move { pages } => proved::any_move(s, p, b, e, image, image_bytes, index, index_bytes, pages),
             Call::Open => proved::any_open(s, p, b, e, image, image_bytes, index, index_bytes),
             Call::Grow { region, pages } => {
                 proved::any_grow(s, p, b, e, image, image_bytes, index, index_bytes, region, pages)

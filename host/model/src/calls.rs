@@ -114,6 +114,21 @@ impl<'a> View<'a> {
         if drawn > limits.pages && drawn <= self.room(region) { random.between(0, limits.pages) } else { drawn }
     }
 
+    /// Pages of an older memory: around what the image has room for, mostly.
+    pub fn older(&self, random: &mut Random) -> u64 {
+        let room = (self.image.len() as u64 / self.g.block_bytes()).saturating_sub(1).min(self.g.blocks) * self.g.pages;
+        match random.below(12) {
+            0 => 0,
+            1 => random.pick(&EXTREMES),
+            2 => random.pick(&[self.g.most_book_pages() + 1, self.g.most_book_pages() + self.g.pages]),
+            3 => room,
+            4 => room + 1,
+            5 => room.saturating_sub(random.below(self.g.pages)),
+            6 => random.pick(&[1, self.g.pages, self.g.pages + 1]),
+            _ => random.between(0, room),
+        }
+    }
+
     fn stretch(&self, region: u64, limits: &Limits, random: &mut Random) -> (u64, usize) {
         let end = self.pages(region).saturating_mul(self.g.page);
         let block = self.g.block_bytes();
@@ -155,6 +170,7 @@ pub fn draw(view: &View<'_>, early: bool, limits: &Limits, random: &mut Random) 
         76..84 => (Call::Size { region }, 0),
         84..91 => (Call::Release { region }, 0),
         91..97 => (Call::Recover, 0),
+        97 => (Call::Move { pages: view.older(random) }, 0),
         _ => (Call::Lay, 0),
     }
 }

@@ -72,11 +72,16 @@ impl<Name: Named> Desk<Name> {
     fn history(&mut self, mut steps: u64) -> Result<(), String> {
         let early = steps - EARLY;
         let mut state = self.fresh();
-        if self.random.percent(60) {
-            self.make(Call::Lay, 0, &mut state)?;
-        } else {
-            self.draw_tables(&mut state);
-            self.make(Call::Recover, 0, &mut state)?;
+        match self.random.below(10) {
+            0..5 => self.make(Call::Lay, 0, &mut state)?,
+            5 => {
+                let pages = View::new(self.g, &state.image).older(&mut self.random);
+                self.make(Call::Move { pages }, 0, &mut state)?;
+            }
+            _ => {
+                self.draw_tables(&mut state);
+                self.make(Call::Recover, 0, &mut state)?;
+            }
         }
         while steps > 0 {
             steps -= 1;

@@ -90,6 +90,7 @@ impl Geometry {
 #[derive(Clone, Copy, Debug, PartialEq)]
 pub enum Call {
     Lay,
+    Move { pages: u64 },
     Open,
     Grow { region: u32, pages: u64 },
     Load { region: u32, offset: u64 },
@@ -161,6 +162,8 @@ reasons! {
     NoBlocksLeft: 10,
     NoRegionLeft: 11,
     NotBlank: 12,
+    MoveShortImage: 13,
+    MoveAboveBlocks: 13,
     UnusedFirst: 16,
     UnusedLast: 16,
     UnusedBetween: 16,
@@ -430,11 +433,20 @@ fn check_12(image: &[u8]) -> Result<(), Why> {
     refuse(image[..16].iter().any(|byte| *byte != 0), Why::NotBlank)
 }
 
+/// Refusal 13 of request R-2 of document 02; where it does not apply, the blocks that the older memory needs.
+fn check_13(g: Geometry, image: &[u8], pages: u64) -> Result<u64, Why> {
+    let k = g.need(u128::from(pages));
+    refuse(k > u128::from(g.blocks), Why::MoveAboveBlocks)?;
+    refuse(image.len() as u128 / u128::from(g.block_bytes()) < k + 1, Why::MoveShortImage)?;
+    Ok(k as u64)
+}
+
 /// Makes the call on the paper's terms.
 pub fn call(g: Geometry, call: Call, lent: Lent<'_>) -> Outcome {
     let Lent { image, index, buffer } = lent;
     match call {
         Call::Lay => lay(g, image, index),
+        Call::Move { pages } => move_over(g, image, index, pages),
         Call::Open => open(g, image, index),
         Call::Grow { region, pages } => grow(g, image, index, region, pages),
         Call::Load { region, offset } => load(g, image, index, region, offset, buffer),
@@ -455,6 +467,29 @@ fn lay(g: Geometry, image: &mut [u8], index: &mut [u8]) -> Outcome {
     image[g.unused()].fill(0);
     index.copy_from_slice(&tables.recovered(g));
     Ok(Done { value: 0, touched: vec![g.unused()] })
+}
+
+/// Request R-2 of document 02.
+fn move_over(g: Geometry, image: &mut [u8], index: &mut [u8], pages: u64) -> Outcome {
+    check_1(g)?;
+    check_2(g, index)?;
+    check_3(g, image)?;
+    let k = check_13(g, image, pages)?;
+    let mut tables = Tables::empty(g);
+    tables.taken = k;
+    tables.books[0] = Some(pages);
+    let mut touched = vec![g.unused()];
+    if k > 0 {
+        tables.blocks[k as usize - 1] = (0, 0);
+        (1..k).for_each(|position| tables.blocks[position as usize - 1] = (0, position));
+        let last = g.data_at(k - 1)..g.data_at(k);
+        image.copy_within(..g.block_bytes() as usize, last.start);
+        touched.push(last);
+    }
+    tables.write(g, image);
+    image[g.unused()].fill(0);
+    index.copy_from_slice(&tables.recovered(g));
+    Ok(Done { value: 0, touched })
 }
 
 fn checks_1_to_7(g: Geometry, image: &[u8], index: &[u8]) -> Result<Tables, Why> {

@@ -5,11 +5,12 @@ use std::fmt;
 
 use crate::paper::{Call, Outcome, Why};
 
-const CALLS: [&str; 8] = ["lay", "open", "grow", "load", "store", "size", "release", "recover"];
+const CALLS: [&str; 9] = ["lay", "move", "open", "grow", "load", "store", "size", "release", "recover"];
 
 /// The refusals that a call's checks can give, as 'Order of checks' lists them, and 0.
-const REACHABLE: [&[u64]; 8] = [
+const REACHABLE: [&[u64]; 9] = [
     &[0, 1, 2, 3, 12],
+    &[0, 1, 2, 3, 13],
     &[0, 1, 2, 3, 4, 5, 6, 7, 11],
     &[0, 1, 2, 3, 4, 5, 6, 7, 8, 10],
     &[0, 1, 2, 3, 4, 5, 8, 6, 9, 7],
@@ -20,18 +21,19 @@ const REACHABLE: [&[u64]; 8] = [
 ];
 
 /// Those that must also come on an image with pages in the regions kept back: such pages are counted, and are nobody's to call.
-const BESIDE_KEPT: [&[u64]; 8] = [&[], &[0], &[0, 8, 10], &[0, 8], &[0, 8], &[0, 8], &[0, 8], &[0, 6]];
+const BESIDE_KEPT: [&[u64]; 9] = [&[], &[], &[0], &[0, 8, 10], &[0, 8], &[0, 8], &[0, 8], &[0, 8], &[0, 6]];
 
 fn row(call: Call) -> usize {
     match call {
         Call::Lay => 0,
-        Call::Open => 1,
-        Call::Grow { .. } => 2,
-        Call::Load { .. } => 3,
-        Call::Store { .. } => 4,
-        Call::Size { .. } => 5,
-        Call::Release { .. } => 6,
-        Call::Recover => 7,
+        Call::Move { .. } => 1,
+        Call::Open => 2,
+        Call::Grow { .. } => 3,
+        Call::Load { .. } => 4,
+        Call::Store { .. } => 5,
+        Call::Size { .. } => 6,
+        Call::Release { .. } => 7,
+        Call::Recover => 8,
     }
 }
 
@@ -39,10 +41,10 @@ fn row(call: Call) -> usize {
 const ANSWERS: usize = 17;
 
 /// Calls by answer.
-type Cells = [[u64; ANSWERS]; 8];
+type Cells = [[u64; ANSWERS]; 9];
 
 /// Which of these answers were never given.
-fn never<'a>(cells: &'a Cells, answers: &'a [&[u64]; 8]) -> impl Iterator<Item = String> + 'a {
+fn never<'a>(cells: &'a Cells, answers: &'a [&[u64]; 9]) -> impl Iterator<Item = String> + 'a {
     let pairs =
         answers.iter().enumerate().flat_map(|(call, numbers)| numbers.iter().map(move |number| (call, *number)));
     let none = pairs.filter(|(call, number)| cells[*call][*number as usize] == 0);
@@ -50,7 +52,7 @@ fn never<'a>(cells: &'a Cells, answers: &'a [&[u64]; 8]) -> impl Iterator<Item =
 }
 
 /// A line for each call, with a dash for answers that are not among these.
-fn lines(out: &mut fmt::Formatter<'_>, cells: &Cells, answers: &[&[u64]; 8]) -> fmt::Result {
+fn lines(out: &mut fmt::Formatter<'_>, cells: &Cells, answers: &[&[u64]; 9]) -> fmt::Result {
     for ((call, answers), cells) in CALLS.iter().zip(answers).zip(cells) {
         write!(out, "\n{call:8}")?;
         for (number, count) in (0..).zip(cells) {

@@ -205,6 +205,40 @@ fn no_unused_reserve() {
     assert!(g.unused().is_empty() && image[164..] == [7; 164]);
 }
 
+/// An older memory of any page count that fits, moved over, reads as it did; and the history goes on from there.
+#[test]
+fn older_memories_of_request_2() {
+    let memory: Vec<u8> = (0..9_216_usize).map(|place| (place % 251) as u8).collect();
+    for (pages, bytes) in
+        (0..=136).flat_map(|pages| [0, 1, 511, 512].map(|more| (pages, u64::div_ceil(pages, 8) * 512 + more)))
+    {
+        let mut bench = Bench { image: memory[..bytes as usize].to_vec(), index: vec![7; 82] };
+        let k = u64::div_ceil(pages, 8);
+        let before = bench.clone();
+        let refusal = match (bytes, k) {
+            (..512, _) => 3,
+            (_, 17..) => 13,
+            _ if bytes < (k + 1) * 512 => 13,
+            _ => 0,
+        };
+        assert_eq!(bench.make(Call::Move { pages }), (refusal, 0), "{pages} pages in {bytes} bytes");
+        if refusal != 0 {
+            assert!(bench.image == before.image && bench.index == before.index);
+            continue;
+        }
+        let index = bench.index.clone();
+        assert_eq!(bench.make(Call::Recover), (0, 0));
+        assert_eq!(bench.index, index);
+        assert_eq!(bench.make(Call::Size { region: 0 }), (0, pages));
+        let mut book = vec![0; pages as usize * 64];
+        assert!(bench.with(Call::Load { region: 0, offset: 0 }, &mut book).is_ok());
+        assert!(book == memory[..book.len()], "{pages} pages in {bytes} bytes");
+        assert_eq!(bench.make(Call::Open), (0, 16));
+    }
+    let mut bench = Bench { image: memory, index: vec![7; 82] };
+    assert_eq!(bench.make(Call::Move { pages: u64::MAX }), (13, 0));
+}
+
 #[test]
 fn ceilings_of_request_7() {
     assert!(BENCH.allowed() && HOUSE.allowed() && WIDEST.allowed());

@@ -29,6 +29,17 @@ impl<I: AsRef<[u8]> + AsMut<[u8]>> Books<I> {
         Ok(Books { geometry, image, index })
     }
 
+    /// The books of an older memory, which has no header and no tables: so many pages of bytes from the first byte on. They become
+    /// the book of region 0, byte for byte; the image must have one whole block more than they need.
+    ///
+    /// The memory's first block is copied past its last one, and then its place becomes the header and the tables. A call that is
+    /// cut short after the copy has destroyed the memory's own first block: move a copy.
+    pub fn move_over(geometry: Geometry, mut image: I, pages: Pages) -> Result<Books<I>, Refusal> {
+        let mut index = vec![0; geometry.index_bytes()];
+        answer(calls::move_over(geometry.number(), image.as_mut(), &mut index, pages.0))?;
+        Ok(Books { geometry, image, index })
+    }
+
     /// The books that an image holds: the index is worked out anew.
     pub fn recover(geometry: Geometry, image: I) -> Result<Books<I>, Refusal> {
         let mut index = vec![0; geometry.index_bytes()];

@@ -9,6 +9,14 @@ use crate::Refusal;
 mod proved {
     unsafe extern "C" {
         pub fn book_lay(geometry: u32, image: *mut u8, image_bytes: usize, index: *mut u8, index_bytes: usize) -> u64;
+        pub fn book_move(
+            geometry: u32,
+            image: *mut u8,
+            image_bytes: usize,
+            index: *mut u8,
+            index_bytes: usize,
+            pages: u64,
+        ) -> u64;
         pub fn book_open(geometry: u32, image: *mut u8, image_bytes: usize, index: *mut u8, index_bytes: usize) -> u64;
         pub fn book_grow(
             geometry: u32,
@@ -77,6 +85,16 @@ pub fn answer(answered: u64) -> Result<u64, Refusal> {
 /// Writes an empty image's header and tables, and its index. Refused if the image's first 16 bytes are not zero.
 pub fn lay(geometry: u32, image: &mut [u8], index: &mut [u8]) -> u64 {
     unsafe { proved::book_lay(geometry, image.as_mut_ptr(), image.len(), index.as_mut_ptr(), index.len()) }
+}
+
+/// Makes an image of an older memory of so many pages, which become the book of region 0. Answers 0.
+///
+/// The memory's first block is copied past its last one, and then its place becomes the header and the tables. A call that is
+/// cut short after the copy has destroyed the memory's own first block: move a copy.
+pub fn move_over(geometry: u32, image: &mut [u8], index: &mut [u8], pages: u64) -> u64 {
+    let (image, image_bytes) = (image.as_mut_ptr(), image.len());
+    let (index, index_bytes) = (index.as_mut_ptr(), index.len());
+    unsafe { proved::book_move(geometry, image, image_bytes, index, index_bytes, pages) }
 }
 
 /// Opens an empty book, and answers its region.

@@ -50,6 +50,7 @@ refusals! {
     NoBlocksLeft = 10, "the image has too few blocks left for this growth";
     NoRegionLeft = 11, "every region is open";
     NotBlank = 12, "the image is not blank: its first 16 bytes are not zero";
+    TooFewBlocks = 13, "the image has no whole block more than the older memory needs, or the geometry has too few blocks";
     NewerRelease = 16, "the image comes from a newer release, which uses bytes that this one keeps zero: open it with that release";
 }
 

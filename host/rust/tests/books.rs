@@ -64,6 +64,25 @@ fn regions_run_out() {
     assert_eq!(books.open(), Ok(Region(18)));
 }
 
+/// An older memory of 17 pages, moved over, reads as it did, and can grow.
+#[test]
+fn an_older_memory() {
+    let memory: Vec<u8> = (0..2_048).map(|place| (place % 251) as u8).collect();
+    assert_eq!(
+        Books::move_over(Geometry::Bench, &mut memory.clone()[..2_047], Pages(17)).err(),
+        Some(Refusal::TooFewBlocks)
+    );
+    let mut books = Books::move_over(Geometry::Bench, memory.clone(), Pages(17)).unwrap();
+    let mut bytes = vec![0; 17 * 64];
+    books.load(Region(0), Offset(0), &mut bytes).unwrap();
+    assert_eq!(bytes, memory[..17 * 64]);
+    assert_eq!(books.size(Region(0)), Ok(Pages(17)));
+    assert_eq!(books.grow(Region(0), Pages(7)), Ok(Pages(17)));
+    assert_eq!(books.grow(Region(0), Pages(1)), Err(Refusal::NoBlocksLeft));
+    let again = Books::recover(Geometry::Bench, books.into_image()).unwrap();
+    assert_eq!(again.size(Region(0)), Ok(Pages(24)));
+}
+
 #[test]
 fn answers_are_taken_apart() {
     let largest = (1 << VALUE_BITS) - 1;
@@ -75,7 +94,7 @@ fn answers_are_taken_apart() {
 #[test]
 fn refusals_have_words() {
     let words: Vec<String> =
-        (1..=12).chain([16]).map(|number| Refusal::numbered(number).unwrap().to_string()).collect();
+        (1..=13).chain([16]).map(|number| Refusal::numbered(number).unwrap().to_string()).collect();
     assert!(words.iter().all(|words| words.len() > 10));
-    assert_eq!((Refusal::numbered(0), Refusal::numbered(13)), (None, None));
+    assert_eq!((Refusal::numbered(0), Refusal::numbered(17)), (None, None));
 }

@@ -15,6 +15,7 @@ fn proved(geometry: u32, call: Call, lent: Lent<'_>) -> u64 {
     let Lent { image, index, buffer } = lent;
     match call {
         Call::Lay => calls::lay(geometry, image, index),
+        Call::Move { pages } => calls::move_over(geometry, image, index, pages),
         Call::Open => calls::open(geometry, image, index),
         Call::Grow { region, pages } => calls::grow(geometry, image, index, region, pages),
         Call::Load { region, offset } => calls::load(geometry, image, index, region, offset, buffer),

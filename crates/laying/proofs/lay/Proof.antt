@@ -3,7 +3,10 @@ use mathlib.Core.Path.{_≡_, sym, _∙_}
 use Rattle.paper.specs.Calls.{lay}
 use Rattle.paper.specs.Refusals.{refusal}
 use Rattle.paper.specs.Outcomes.{State, lent}
+use Rattle.paper.proofs.Arithmetic.{need-zero}
 use Rattle.rules.proofs.Lines.{lay-accepted, refused, lay-done}
+use Rattle.rules.proofs.Moved.{moved-none}
+use native.Mathlib.Omega.{arith}
 use borrow.Author.Needs.{needs}
 use Rattle.laying.proofs.lay.Statement.{statement}
 use Rattle.laying.proofs.lay.Tie as tie
@@ -41,7 +44,9 @@ returns c =
     sym (refused (at-start (c .before) .args .g) lay (state (c .before)) (no .result) (sym (no .ensures)) (c .if1 .taken))
 
 write-reserve-requires : tie.Need-write-reserve-requires
-write-reserve-requires c κs = let f = lay-accepted _ _ _ (accepted (c .before)) in record { allowed = f .0; long = f .2 }
+write-reserve-requires c κs =
+    let f = lay-accepted _ _ _ (accepted (c .before)) in
+    (record { allowed = f .0; long = f .2 }, omega (arith, need-zero (at-start (c .before .before) .args .g) (f .0 .pages-least)))
 
 write-empty-index-requires : tie.Need-write-empty-index-requires
 write-empty-index-requires c κs =
@@ -57,7 +62,8 @@ same-length-4 c = search needs
 returns-2 : tie.Need-returns-2
 returns-2 c =
     let k = at-accepted (at-reserve (c .before .before)) in
-    cc (lay-done (at-start (k .before) .args .g) (state (k .before)) (accepted k))
+    let g = at-start (k .before) .args .g in
+    cc (lay-done g (state (k .before)) (accepted k), moved-none g (lay-accepted _ _ _ (accepted k) .0))
 
 pub lay-spec : {M : Type 1} → statement M
 lay-spec =

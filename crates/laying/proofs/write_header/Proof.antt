@@ -45,7 +45,7 @@ same-length c = search needs
 returns : tie.Need-returns
 returns c =
     let start = at-start (at-marker (at-version (at-taken (at-counter (c .before .before))))) in
-    cc (header-put version 0 fixedRegions (start .args .image .now))
+    cc (header-put version (start .args .taken) fixedRegions (start .args .image .now))
 
 pub write-header-spec : {M : Type 1} → statement M
 write-header-spec =

@@ -7,7 +7,7 @@ use Rattle.laws.specs.Bytes.{splice}
 use Rattle.laws.proofs.Lists.{join-none, splice-nil, splice-row}
 use Rattle.paper.specs.Geometry.{sizeAt}
 use Rattle.paper.specs.Image.{sizeRow}
-use Rattle.paper.specs.Calls.{laidSize}
+use Rattle.paper.specs.Move.{movedSize}
 use Rattle.rules.proofs.Written.{length-size, size-put}
 use native.Mathlib.Omega.{arith}
 use borrow.Author.Needs.{needs}
@@ -15,10 +15,10 @@ use Rattle.laying.proofs.write_regions.Statement.{statement}
 use Rattle.laying.proofs.write_regions.Tie as tie
 
 abbrev Inv-loop : tie.InvT-loop
-Inv-loop g image₀ r₀ r-end image r = (r ≤ r-end) × (length image ≡ length image₀) × (image ≡ splice (sizeAt g 0) (joinBelow r (sizeRow laidSize)) image₀)
+Inv-loop g image₀ pages r₀ r-end image r = (r ≤ r-end) × (length image ≡ length image₀) × (image ≡ splice (sizeAt g 0) (joinBelow r (sizeRow (movedSize (pages .0)))) image₀)
 
 abbrev μ-loop : tie.MeasureT-loop
-μ-loop g image₀ r₀ r-end image r = r-end - r
+μ-loop g image₀ pages r₀ r-end image r = r-end - r
 
 -- ---- the places, each from a later one: the start, the loop's head, an entry's place known
 abbrev at-start : tie.At-loop Inv-loop μ-loop → tie.Start Inv-loop μ-loop
@@ -32,14 +32,14 @@ loop-holds c =
     let a = c .before .args in
     (omega arith, refl, rw join-none (sym (splice-nil (sizeAt (a .g) 0) (a .image .now))))
 
-cast-t7 : tie.Need-cast-t7 Inv-loop μ-loop
-cast-t7 c = search needs
+cast-t8 : tie.Need-cast-t8 Inv-loop μ-loop
+cast-t8 c = search needs
 
 size-at-requires : tie.Need-size-at-requires Inv-loop μ-loop
 size-at-requires c κs = search needs
 
-laid-size-requires : tie.Need-laid-size-requires Inv-loop μ-loop
-laid-size-requires c κs = search needs
+new-size-requires : tie.Need-new-size-requires Inv-loop μ-loop
+new-size-requires c κs = search needs
 
 write-u64-requires : tie.Need-write-u64-requires Inv-loop μ-loop
 write-u64-requires c κs = search needs
@@ -58,8 +58,8 @@ loop-again c =
     let r = x .loop .r in
     let from = sizeAt (a .g) 0 in
     let at : sizeAt (a .g) r ≡ from + 8 * r = omega arith in
-    let size = size-put laidSize r (from + 8 * r) (x .loop .image) in
-    let more = splice-row 8 from r (sizeRow laidSize) (a .image .now) (length-size laidSize) (omega arith) in
+    let size = size-put (movedSize (a .pages .0)) r (from + 8 * r) (x .loop .image) in
+    let more = splice-row 8 from r (sizeRow (movedSize (a .pages .0))) (a .image .now) (length-size (movedSize (a .pages .0))) (omega arith) in
     (omega arith, w .write-u64 .kept .0 ∙ x .loop .inv .1, cc (at, size, more))
 
 same-length : tie.Need-same-length Inv-loop μ-loop
@@ -78,9 +78,9 @@ write-regions-spec =
     Inv-loop
     μ-loop
     loop-holds
-    cast-t7
+    cast-t8
     size-at-requires
-    laid-size-requires
+    new-size-requires
     write-u64-requires
     add-r
     loop-less

@@ -1,6 +1,6 @@
 -- `laying::write_reserve` meets its contract.
 use mathlib.Core.Path.{_∙_, ap}
-use Rattle.paper.specs.Calls.{laid}
+use Rattle.paper.specs.Move.{movedFront}
 use Rattle.rules.specs.Facts.{fronted}
 use borrow.Author.Needs.{needs}
 use Rattle.laying.proofs.write_reserve.Statement.{statement}
@@ -26,8 +26,8 @@ returns : tie.Need-returns
 returns c =
     let w = c .before .before in
     let b = at-blank w in
-    let g = at-start b .args .g in
-    w .write-tables .ensures ∙ ap (fronted g (laid g)) (b .blank-unused .ensures)
+    let a = at-start b .args in
+    w .write-tables .ensures ∙ ap (fronted (a .g) (movedFront (a .g) (a .pages .0))) (b .blank-unused .ensures)
 
 pub write-reserve-spec : {M : Type 1} → statement M
 write-reserve-spec =
