@@ -6,12 +6,16 @@ use std::fs;
 use std::path::Path;
 
 use jaaturbal_bench::bytes::{self, Lie, Sheets};
+use jaaturbal_bench::growth::{self, Growth};
 use jaaturbal_bench::manager::{GROW, LAY, LOAD, MOVE, OPEN, RECOVER, RECOVER_WIDEST, RELEASE, STORE};
 use jaaturbal_bench::report::{Row, page, plot, table};
 use jaaturbal_bench::tables::{self, Ledger};
 use jaaturbal_bench::{leaf, timing::Compared};
 use jaaturbal_model::paper::{HOUSE, WIDEST};
 
+/// Images of HOUSE by the blocks that they have, all of them taken.
+const PARTS: [(u64, &str); 4] =
+    [(512, "1/64 of HOUSE"), (2_048, "1/16 of HOUSE"), (8_192, "a quarter of HOUSE"), (32_768, "a full HOUSE image")];
 const SIZES: [(usize, &str); 3] = [(16, "16 bytes"), (4_096, "4 KiB"), (1 << 20, "1 MiB")];
 
 fn main() {
@@ -34,10 +38,15 @@ fn main() {
         }
     }
     drop(sheets);
-    for (blocks, part) in [(8_192, "a quarter of HOUSE"), (32_768, "a full HOUSE image")] {
+    let mut growths = [OPEN, RECOVER].map(|call| Growth { name: call.name, at: Vec::new() });
+    for (blocks, part) in PARTS {
         let ledger = RefCell::new(Ledger::drawn(HOUSE, blocks));
         for call in [LAY, MOVE, OPEN, GROW, RELEASE, RECOVER] {
-            measured(call.name.into(), part.into(), tables::measured(&ledger, call));
+            let compared = tables::measured(&ledger, call);
+            measured(call.name.into(), part.into(), compared);
+            if let Some(growth) = growths.iter_mut().find(|growth| growth.name == call.name) {
+                growth.at.push((blocks, compared));
+            }
         }
     }
 
@@ -47,7 +56,8 @@ fn main() {
 
     print!("{}", table(&rows));
     let docs = Path::new(env!("CARGO_MANIFEST_DIR")).join("../docs");
-    for (name, text) in [("bench.svg", plot(&rows)), ("BENCHMARKS.md", page(&rows, &machine()))] {
+    let page = page(&rows, &machine());
+    for (name, text) in [("bench.svg", plot(&rows)), ("growth.svg", growth::plot(&growths)), ("BENCHMARKS.md", page)] {
         let file = docs.join(name);
         fs::write(&file, text).unwrap_or_else(|error| panic!("{}: {error}", file.display()));
     }

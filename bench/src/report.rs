@@ -12,7 +12,7 @@ pub struct Row {
 }
 
 /// A time with three digits that count.
-fn time(nanoseconds: f64) -> String {
+pub fn time(nanoseconds: f64) -> String {
     let (scaled, unit) = match nanoseconds {
         small if small < 1e3 => (small, "ns"),
         middling if middling < 1e6 => (middling / 1e3, "µs"),
@@ -49,9 +49,17 @@ pub fn page(rows: &[Row], machine: &str) -> String {
          {}\n\
          - Loads and stores: at 256 offsets of a book of eight blocks (16 offsets for 1 MiB), in an image with every block taken. \
          Every other one crosses from one block to the next.\n\
-         - Open, grow, release, recover: every block of the image is taken, by some thousands of books, in any order. Grow is by one \
-         page for which the book needs another block. The book that is released has six.\n\
-         - The copying leaf is the loop that loads and stores copy with, against `copy_from_slice`.\n",
+         - Open, grow, release, recover: every block of the image is taken, in any order, with half as many regions given out as there are \
+         blocks. Grow is by one page for which the book needs another block. The book that is released has six.\n\
+         - Lay and move: in the same image. The memory that is moved takes up all of it but the last block, to which its first goes.\n\
+         - The copying leaf is the loop that loads and stores copy with, against `copy_from_slice`; the all-zero leaf is recovery's look at \
+         the reserve, against a fold of the same bytes.\n\n\
+         ## As an image grows\n\n\
+         Open and recover look at every entry of both tables, whoever holds the blocks: a cost that is always there, and one by the block. \
+         The proved recovery's line bends upwards: it looks for a pair named twice with little memory, in one pass over the blocks for \
+         so many regions in use, so that a fuller image has more passes, and each block costs more. Plain Rust takes memory for every \
+         region and makes one pass.\n\n\
+         ![The times](growth.svg)\n",
         table(rows)
     )
 }

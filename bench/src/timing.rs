@@ -19,6 +19,7 @@ impl Spread {
 }
 
 /// What a comparison showed: nanoseconds a call, and the proved one's time over the plain one's, round by round.
+#[derive(Clone, Copy)]
 pub struct Compared {
     pub proved: Spread,
     pub plain: Spread,

@@ -32,7 +32,7 @@ fn has_room(g: Geometry, image: &[u8], region: Region, pages: Pages) -> bool
     pages.0 <= most - old.0
 }
 
-// After an accepted open, grow or release the index is what recover would then write.
+// After an accepted grow or release the index is what recover would then write.
 fn index_anew(g: Geometry, image: &[u8], index: &mut [u8])
     requires { ⌜ Readable g (now image) × Indexed g (now index) ⌝ }
     requires { ⌜ Formed g (capacity g (length (now image))) (front g (now image)) ⌝ }
@@ -41,7 +41,8 @@ fn index_anew(g: Geometry, image: &[u8], index: &mut [u8])
     index::write_index(g, image, index);
 }
 
-// Open: while C is below E-1, gives C and raises it; then the lowest region from 16 to E-2 that is not open.
+// Open: while C is below E-1, gives C and raises it; then the lowest region from 16 to E-2 that is not open. A book with no pages has
+// no blocks, so the index stays.
 pub fn open(g: Geometry, image: &mut [u8], index: &mut [u8]) -> Answer
     ensures { λ a. ⌜ gives a [] (lent (now (image .exit)) (now (index .exit))) ≡ outcome g «open» (lent (now (image .entry)) (now (index .entry))) ⌝ }
 {
@@ -54,7 +55,6 @@ pub fn open(g: Geometry, image: &mut [u8], index: &mut [u8]) -> Answer
         return Answer::Refused(desk::NO_REGION);
     }
     tables::open_tables(g, image, r);
-    index_anew(g, image, index);
     Answer::Done(r.0 as u64)
 }
 

@@ -1,14 +1,15 @@
 // The stored image: header and tables read and written, and the rules a to e checked. Nothing above this crate knows an offset of them.
 ghost use mathlib.Core.Path.{_≡_};
-ghost use Prim.Native.Nat.{_^_, _<_, _≤_};
-ghost use mathlib.Core.Bool.{not};
+ghost use Prim.Native.Nat.{_%_, _^_, _<_, _≤_};
+ghost use mathlib.Core.Bool.{not, _&&_};
 ghost use lib.Dec.{eqb};
 ghost use Rattle.laws.specs.Folds.{allBelow, allFrom};
-ghost use Rattle.paper.specs.Geometry.{fixedRegions, noRegion};
+ghost use Rattle.paper.specs.Geometry.{fixedRegions, reclaimed, noRegion};
 ghost use Rattle.paper.specs.Image.{front, stamp, taken, counter, owner, place, names, pagesOf, isOpen, needOf, setTaken, setCounter, setEntry, setPages, setNotOpen};
 ghost use Rattle.paper.specs.WellFormed.{ruleA, fits, ruleB, ruleC, named, ruleE};
 ghost use Rattle.paper.specs.Refusals.{headerRight, unusedBlank};
 ghost use Rattle.rules.specs.Facts.{Readable, fronted};
+ghost use Rattle.rules.specs.Given.{High, given};
 use paper::Block;
 use paper::Geometry;
 use paper::Pages;
@@ -70,15 +71,34 @@ pub fn pages(g: Geometry, image: &[u8], r: Region) -> Pages
     Pages(n)
 }
 
-// The blocks that the book needs, 0 where the region is not open.
+// The blocks that the book needs, 0 where the region is not open. Many open books have no pages, here and there among the others: whether they have
+// is not asked, since a branch that the processor cannot foretell costs more than the division.
 pub fn need(g: Geometry, image: &[u8], r: Region) -> u64
     requires { ⌜ Readable g (now image) ⌝ }
     ensures { λ n. ⌜ n ≡ needOf g (front g (now (image .entry))) (r .0) ⌝ }
 {
-    if !is_open(g, image, r) {
+    if g.entries <= r.0 as usize {
         return 0;
     }
-    g.need(pages(g, image, r))
+    let n = numbers::read_u64(image, g.size_at(r));
+    if n == paper::ALL_ONES {
+        return 0;
+    }
+    g.need(Pages(n))
+}
+
+// Whether the book needs so many blocks: they hold its pages, and one less would not. Nothing is divided.
+pub fn is_need(g: Geometry, image: &[u8], r: Region, blocks: u64) -> bool
+    requires { ⌜ Readable g (now image) ⌝ }
+    requires { ⌜ (r .0 < g .entries) × (blocks < 2 ^ 16) ⌝ }
+    ensures { λ t. ⌜ t ≡ eqb (needOf g (front g (now (image .entry))) (r .0)) blocks ⌝ }
+{
+    let room = blocks * g.pages as u64;
+    let n = pages(g, image, r);
+    if room < n.0 {
+        return false;
+    }
+    room - n.0 < g.pages as u64
 }
 
 // ---- one number written anew. Regions and positions have two bytes in the header and in a block's entry
@@ -167,7 +187,7 @@ pub fn unused_blank(g: Geometry, image: &[u8]) -> bool
     numbers::all_zero(&image[from..to])
 }
 
-// ---- the rules a to e checked, each in one pass
+// ---- the rules a to e checked
 
 fn low_open(g: Geometry, image: &[u8]) -> bool
     requires { ⌜ Readable g (now image) ⌝ }
@@ -204,38 +224,36 @@ pub fn rule_a(g: Geometry, image: &[u8]) -> bool
     high_not_open(g, image)
 }
 
-// A region that is not open reads as 0 pages, and fits.
-fn all_fit(g: Geometry, image: &[u8]) -> bool
+// Region 1's pages fill its blocks.
+pub fn reclaimed_whole(g: Geometry, image: &[u8]) -> bool
     requires { ⌜ Readable g (now image) ⌝ }
-    ensures { λ t. ⌜ t ≡ allBelow (g .entries) (fits g (front g (now (image .entry)))) ⌝ }
+    ensures { λ t. ⌜ t ≡ eqb (pagesOf g (front g (now (image .entry))) reclaimed % g .pages) 0 ⌝ }
 {
-    let most = g.most_book_pages();
-    for r in 0..g.entries {
-        if most.0 < pages(g, image, Region(r as u32)).0 {
-            return false;
-        }
-    }
-    true
-}
-
-pub fn rule_b(g: Geometry, image: &[u8]) -> bool
-    requires { ⌜ Readable g (now image) ⌝ }
-    ensures { λ t. ⌜ t ≡ ruleB g (front g (now (image .entry))) ⌝ }
-{
-    if !all_fit(g, image) {
-        return false;
-    }
     pages(g, image, paper::RECLAIMED).0 % g.pages as u64 == 0
 }
 
-// What is left of N is counted down: the sum of the needs could wrap.
-pub fn rule_c(g: Geometry, image: &[u8]) -> bool
+// The regions below C, or all of them where C is past the table.
+pub fn given_out(g: Geometry, image: &[u8]) -> Region
     requires { ⌜ Readable g (now image) ⌝ }
-    ensures { λ t. ⌜ t ≡ ruleC g (front g (now (image .entry))) ⌝ }
+    ensures { λ r. ⌜ r .0 ≡ given g (front g (now (image .entry))) ⌝ }
 {
+    let c = numbers::lesser(counter(g, image).0 as usize, g.entries);
+    Region(c as u32)
+}
+
+// Rule c and the first sentence of b, where no region from C on is open. What is left of N is counted down: the sum of the needs could wrap.
+fn books_in_order(g: Geometry, image: &[u8]) -> bool
+    requires { ⌜ Readable g (now image) ⌝ }
+    requires { ⌜ High g (front g (now image)) ⌝ }
+    ensures { λ t. ⌜ t ≡ (allBelow (g .entries) (fits g (front g (now (image .entry)))) && ruleC g (front g (now (image .entry)))) ⌝ }
+{
+    let most = g.most_book_pages();
     let mut left = taken(g, image) as u64;
-    for r in 0..g.entries {
-        let n = need(g, image, Region(r as u32));
+    for r in 0..given_out(g, image).0 {
+        if most.0 < pages(g, image, Region(r)).0 {
+            return false;
+        }
+        let n = need(g, image, Region(r));
         if left < n {
             return false;
         }
@@ -244,14 +262,33 @@ pub fn rule_c(g: Geometry, image: &[u8]) -> bool
     left == 0
 }
 
-// A region that is not open needs no block, so that no position lies below its need.
+// Rules a, b and c: the regions below C are walked once for both b and c, and those from C on once for a.
+pub fn regions_in_order(g: Geometry, image: &[u8]) -> bool
+    requires { ⌜ Readable g (now image) ⌝ }
+    ensures { λ t. ⌜ t ≡ (ruleA g (front g (now (image .entry))) && ruleB g (front g (now (image .entry))) && ruleC g (front g (now (image .entry)))) ⌝ }
+{
+    if !rule_a(g, image) {
+        return false;
+    }
+    if !reclaimed_whole(g, image) {
+        return false;
+    }
+    books_in_order(g, image)
+}
+
+// A position lies below the need where the blocks before it do not hold all the pages: nothing is divided. A region that is not open
+// has no pages.
 fn named(g: Geometry, image: &[u8], b: Block) -> bool
     requires { ⌜ Readable g (now image) ⌝ }
     requires { ⌜ b .0 < g .blocks ⌝ }
     ensures { λ t. ⌜ t ≡ named g (front g (now (image .entry))) (b .0) ⌝ }
 {
     let r = owner(g, image, b);
-    (place(g, image, b).0 as u64) < need(g, image, r)
+    if g.entries <= r.0 as usize {
+        return false;
+    }
+    let before = place(g, image, b).0 as u64 * g.pages as u64;
+    before < pages(g, image, r).0
 }
 
 // Rule d but for its last sentence.

@@ -2,4 +2,5 @@
 pub mod Slots
 pub mod Filling
 pub mod Witness
+pub mod Marks
 pub mod Repeats

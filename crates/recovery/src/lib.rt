@@ -8,8 +8,8 @@ ghost use Rattle.paper.specs.Calls.{recover};
 ghost use Rattle.paper.specs.Outcomes.{lent, gives, outcome};
 ghost use Rattle.paper.specs.Refusals.{refusal};
 ghost use Rattle.rules.specs.Lines.{orderedNo};
-ghost use Rattle.recovery.specs.Refused.{loosely};
-ghost use Rattle.rules.specs.Facts.{Readable};
+ghost use Rattle.recovery.specs.Refused.{loosely, vouched};
+ghost use Rattle.rules.specs.Facts.{Readable, Indexed};
 use paper::Answer;
 use paper::Geometry;
 
@@ -19,13 +19,7 @@ fn loosely(g: Geometry, image: &[u8]) -> bool
     requires { ⌜ taken g (front g (now image)) ≤ g .blocks ⌝ }
     ensures { λ t. ⌜ t ≡ loosely g (front g (now (image .entry))) ⌝ }
 {
-    if !image::rule_a(g, image) {
-        return false;
-    }
-    if !image::rule_b(g, image) {
-        return false;
-    }
-    if !image::rule_c(g, image) {
+    if !image::regions_in_order(g, image) {
         return false;
     }
     if !image::all_named(g, image) {
@@ -65,7 +59,26 @@ fn recover_refusal(g: Geometry, image: &[u8], index: &[u8]) -> u8
     0
 }
 
-// 1 to 7. The lent index is its own witness that no two blocks name the same pair; only where it bears none are the tables searched.
+// Whether the tables keep the rules and the index is what recovery would give: the index is its own witness. Its starts tell the needs and
+// their sum, so that each book fits, and its slots that no two blocks name the same pair.
+fn vouched(g: Geometry, image: &[u8], index: &[u8]) -> bool
+    requires { ⌜ Readable g (now image) × Indexed g (now index) ⌝ }
+    requires { ⌜ taken g (front g (now image)) ≤ g .blocks ⌝ }
+    ensures { λ t. ⌜ t ≡ vouched g (front g (now (image .entry))) (now (index .entry)) ⌝ }
+{
+    if !image::rule_a(g, image) {
+        return false;
+    }
+    if !image::reclaimed_whole(g, image) {
+        return false;
+    }
+    if !image::rule_e(g, image) {
+        return false;
+    }
+    index::witnessed(g, image, index)
+}
+
+// 1 to 7. Only where the index is not its own witness are the rules asked of the tables alone, to tell 6 from 7.
 pub fn ordered(g: Geometry, image: &[u8], index: &[u8]) -> u8
     ensures { λ k. ⌜ k ≡ orderedNo g (now (image .entry)) (now (index .entry)) ⌝ }
 {
@@ -73,13 +86,10 @@ pub fn ordered(g: Geometry, image: &[u8], index: &[u8]) -> u8
     if no != 0 {
         return no;
     }
-    if !loosely(g, image) {
-        return desk::TABLES;
-    }
-    if index::witnessed(g, image, index) {
+    if vouched(g, image, index) {
         return 0;
     }
-    if !index::alone_all(g, image) {
+    if !in_order(g, image) {
         return desk::TABLES;
     }
     desk::INDEX

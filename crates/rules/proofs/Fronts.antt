@@ -12,6 +12,7 @@ use lib.Seq.{drop-at}
 use Rattle.laws.specs.Bytes.{num, le, put}
 use Rattle.laws.proofs.Lists.{take-splice, drop-splice-before, splice-first}
 use Rattle.laws.proofs.Bytes.{length-le, length-put}
+use Rattle.laws.proofs.Known.{Bytes, num-fits}
 use Rattle.paper.specs.declared.Geometry.{Geometry}
 use Rattle.paper.specs.Geometry.{takenAt, counterAt, allOnes, entryAt, sizeAt, frontBytes}
 use Rattle.paper.specs.Image.{notOpen, holds, decoded, front, rest, taken, counter, owner, place, sizeOf, isOpen}
@@ -55,6 +56,10 @@ module _ (g : Geometry) (image : List ℕ) where
     pub place-read : num 2 image (entryAt g b + 2) ≡ place g (front g image) b
     unfolding place
     place-read = sym (num-front g image 2 (entryAt g b + 2) (omega arith))
+
+    -- two bytes
+    pub place-fits : Bytes image → place g (front g image) b < 65536
+    place-fits bytes = omega (arith, place-read, num-fits 2 image (entryAt g b + 2) bytes)
 
   module _ (r n : ℕ) (h : r < g .entries) (e : n ≡ num 8 image (sizeAt g r)) where
     size-read : sizeOf g (front g image) r ≡ decoded n

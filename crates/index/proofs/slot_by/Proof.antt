@@ -1,26 +1,23 @@
--- `index::window_slot` meets its contract.
-use Prim.Native.Nat.{_-_}
+-- `index::slot_by` meets its contract.
+use Prim.Native.Nat.{ℕ, _%_}
 use mathlib.Core.Path.{ap}
-use Rattle.paper.specs.Image.{front}
-use Rattle.paper.specs.Index.{startOf}
-use Rattle.index.proofs.Slots.{slot-below}
+use lib.ListN.{getD}
+use Rattle.rules.proofs.Fronts.{place-fits}
+use Rattle.index.specs.Repeats.{regionsAtOnce}
 use native.Mathlib.Omega.{arith}
 use borrow.Author.Needs.{needs}
-use Rattle.index.proofs.window_slot.Statement.{statement}
-use Rattle.index.proofs.window_slot.Tie as tie
+use Rattle.index.proofs.slot_by.Statement.{statement}
+use Rattle.index.proofs.slot_by.Tie as tie
 
 -- where the call began, and where the owner is known, each from a later place
 abbrev start1 : tie.After-owner → tie.Start
 start1 c = c .before .before .before
 
 abbrev at-owner : tie.After-shared-slice-known3 → tie.After-owner
-at-owner c = c .before .before .before
+at-owner c = c .before .before
 
 owner-requires : tie.Need-owner-requires
 owner-requires c κs = search needs
-
-sub-nth : tie.Need-sub-nth
-sub-nth c = search needs
 
 cast-nth : tie.Need-cast-nth
 cast-nth c = search needs
@@ -32,9 +29,7 @@ shared-slice-read-result : tie.Need-shared-slice-read-result
 shared-slice-read-result c = search needs
 
 cast-result : tie.Need-cast-result
-cast-result c =
-    let o = at-owner c in
-    omega (arith, c .shared-slice-known3 .given (o .owner .result .0 - start1 o .args .w .first .0))
+cast-result c = omega (arith, c .shared-slice-known3 .given (at-owner c .owner .result .0 % regionsAtOnce))
 
 place-requires : tie.Need-place-requires
 place-requires c κs = search needs
@@ -44,23 +39,20 @@ add-result c =
     let k = c .before .before in
     let o = at-owner k in
     let a = start1 o .args in
-    let p = start1 o .pre in
-    let below = slot-below (a .g) (front (a .g) (a .image .now)) (p .0 .0 .slotted) (a .b .0) (p .1 .0) in
-    omega (arith, k .shared-slice-known3 .given (o .owner .result .0 - a .w .first .0), below, p .0 .0 .bound)
+    let fits = place-fits (a .g) (a .image .now) (a .b .0) (start1 o .pre .0 .1) (λ i. o .before .before .shared-slice-known .given i .fits) in
+    omega (arith, k .shared-slice-known3 .given (o .owner .result .0 % regionsAtOnce), c .before .place .ensures, fits)
 
 returns : tie.Need-returns
 returns c =
     let o = at-owner (c .before .before) in
     let a = start1 o .args in
-    let known = start1 o .pre .0 .1 .known (o .owner .result .0) (omega arith) (omega arith) in
-    omega (arith, known, ap (startOf (a .g) (front (a .g) (a .image .now))) (o .owner .ensures))
+    omega (arith, c .before .place .ensures, ap (λ (r : ℕ). getD (a .starts .now) (r % regionsAtOnce) 0) (o .owner .ensures))
 
-pub window-slot-spec : {M : Type 1} → statement M
-window-slot-spec =
+pub slot-by-spec : {M : Type 1} → statement M
+slot-by-spec =
     tie.close
     (tie.spec
     owner-requires
-    sub-nth
     cast-nth
     mul-result
     shared-slice-read-result
