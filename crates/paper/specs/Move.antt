@@ -7,7 +7,7 @@ use lib.ListN.{take, length}
 use Rattle.laws.specs.Bytes.{splice}
 use Rattle.paper.specs.declared.Geometry.{Geometry}
 use Rattle.paper.specs.declared.Answer.the-variants.{Done, Refused}
-use Rattle.paper.specs.Geometry.{version, fixedRegions, anonymous, blockBytes, noRegion, need, dataAt}
+use Rattle.paper.specs.Geometry.{version2, fixedRegions, anonymous, blockBytes, noRegion, need, dataAt}
 use Rattle.paper.specs.Image.{Size, holds, rest, blanked, written}
 use Rattle.paper.specs.Index.{indexOf}
 use Rattle.paper.specs.Calls.{laidSize}
@@ -28,7 +28,7 @@ movedSize n r = cond (eqb r anonymous) (holds n) (laidSize r)
 module _ (g : Geometry) where
   -- version 2, N is k, C is 16
   unfoldable pub movedFront : ℕ → List ℕ
-  movedFront n = let k = need g n in written g version k fixedRegions (movedOwner g k) (movedPlace k) (movedSize n)
+  movedFront n = let k = need g n in written g version2 k fixedRegions (movedOwner g k) (movedPlace k) (movedSize n)
 
   -- the whole first block moves to the end: to data block k-1. With k 0 there is nothing to move
   unfoldable pub movedData : ℕ → List ℕ → List ℕ
