@@ -1,5 +1,6 @@
 // The reserve of a new image, empty or of one book; and the call that lays an empty one.
 ghost use mathlib.Core.Path.{_≡_};
+ghost use mathlib.Core.List.{[]};
 ghost use Prim.Native.Nat.{_+_, _^_, _≤_, _<_};
 ghost use lib.ListN.{length};
 ghost use Rattle.laws.specs.Folds.{joinBelow};
