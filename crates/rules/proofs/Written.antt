@@ -148,7 +148,7 @@ module _ (g : Geometry) (v n c : ℕ) (own pos : ℕ → ℕ) (size : ℕ → Si
         let d = drop-rows 8 (sizeRow v size) (length-size v size) (g .entries) r [] h in (
           d .0,
           rw e (after-header (length entries + r * 8) ∙ drop-append-add entries sizes (r * 8) ∙ (rw append-nil at (d .1)))
-          ∙ append-assoc (le w (coded w (size r))) (le (sizeBytes - w) 0) (d .0),
+              ∙ append-assoc (le w (coded w (size r))) (le (sizeBytes - w) 0) (d .0),
         )
 
     module _ (small : v < 256 ^ 4) where
