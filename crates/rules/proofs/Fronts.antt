@@ -1,6 +1,6 @@
 -- A number of the front, read and written in the image.
 use Prim.Native.Nat.{ℕ, _+_, _≤_, _<_}
-use mathlib.Core.Bool.{Bool, true, false, not, cond}
+use mathlib.Core.Bool.{true, false, not}
 use mathlib.Core.Path.{_≡_, sym, _∙_, ap}
 use mathlib.Core.List.{List}
 use native.Mathlib.Omega.{arith}
@@ -14,7 +14,7 @@ use Rattle.laws.proofs.Lists.{take-splice, drop-splice-before, splice-first}
 use Rattle.laws.proofs.Bytes.{length-le, length-put}
 use Rattle.laws.proofs.Known.{Bytes, num-fits}
 use Rattle.paper.specs.declared.Geometry.{Geometry}
-use Rattle.paper.specs.Geometry.{versionAt, takenAt, counterAt, version3, halfBytes, sizeBytes, allOnes, entryAt, sizeAt, editionAt, frontBytes}
+use Rattle.paper.specs.Geometry.{versionAt, takenAt, counterAt, version3, halfBytes, allOnes, entryAt, sizeAt, editionAt, frontBytes}
 use Rattle.paper.specs.Image.{notOpen, holds, decoded, sizeWidth, front, rest, versionOf, taken, counter, owner, place, sizeOf, editionOf, isOpen}
 use Rattle.rules.proofs.Cells.{width-most, decoded-pages, decoded-not-open, num-front, front-joined}
 use Rattle.rules.proofs.Facts.{is-open, is-not-open}

@@ -14,7 +14,7 @@ use Rattle.laws.specs.Bytes.{value, num, le, splice, put}
 use Rattle.laws.proofs.Lists.{length-rows, drop-rows, splice-start, splice-then}
 use Rattle.laws.proofs.Bytes.{length-le, value-le, le-join}
 use Rattle.paper.specs.declared.Geometry.{Geometry}
-use Rattle.paper.specs.Geometry.{headerBytes, markerAt, versionAt, takenAt, counterAt, blankAt, version2, version3, sizeBytes, halfBytes, entryAt, sizeAt, editionAt, frontBytes}
+use Rattle.paper.specs.Geometry.{headerBytes, markerAt, versionAt, takenAt, counterAt, blankAt, version2, version3, sizeBytes, entryAt, sizeAt, editionAt, frontBytes}
 use Rattle.paper.specs.Image.{Size, coded, sizeWidth, versionOf, stamped, taken, counter, owner, place, sizeOf, editionOf, writtenHeader, entryRow, sizeRow, written}
 use Rattle.rules.specs.Facts.{fronted}
 use Rattle.rules.proofs.Cells.{Codable, version3-width, width-most, decoded-coded, coded-fits}
