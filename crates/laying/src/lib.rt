@@ -2,7 +2,7 @@
 ghost use mathlib.Core.Path.{_≡_};
 ghost use mathlib.Core.List.{[]};
 ghost use Prim.Native.Nat.{_+_, _^_, _≤_, _<_};
-ghost use lib.ListN.{length};
+ghost use lib.ListN.{length, replicate};
 ghost use Rattle.laws.specs.Folds.{joinBelow};
 ghost use Rattle.laws.specs.Bytes.{splice, put};
 ghost use Rattle.paper.specs.Geometry.{headerBytes, version, fixedRegions, Allowed, need, sizeAt};
@@ -108,14 +108,15 @@ fn write_regions(g: Geometry, image: &mut [u8], pages: Pages)
     }
 }
 
+// The header last: before it there is no image, whatever stands in the tables.
 fn write_tables(g: Geometry, image: &mut [u8], pages: Pages)
     requires { ⌜ Readable g (now image) × (need g (pages .0) ≤ g .blocks) ⌝ }
     ensures { λ _. ⌜ now (image .exit) ≡ fronted g (movedFront g (pages .0)) (now (image .entry)) ⌝ }
 {
     let taken = g.need(pages) as u16;
-    write_header(image, taken);
     write_blocks(g, image, taken);
     write_regions(g, image, pages);
+    write_header(image, taken);
 }
 
 // ---- the rest of the reserve
@@ -128,11 +129,21 @@ fn blank_unused(g: Geometry, image: &mut [u8])
     numbers::zero_part(image, g.front_bytes(), g.block_bytes());
 }
 
-// The old anonymous book has so many pages, in the first data blocks. The zeros come first: cut short after them, the image is still one to lay.
+// Zeros for the header, whatever an older memory has in its place: from here on recovery refuses, until the new one is written.
+fn clear_header(image: &mut [u8])
+    requires { ⌜ headerBytes ≤ length (now image) ⌝ }
+    ensures { λ _. ⌜ now (image .exit) ≡ splice 0 (replicate headerBytes 0) (now (image .entry)) ⌝ }
+{
+    numbers::zero_part(image, 0, paper::HEADER_BYTES);
+}
+
+// The old anonymous book has so many pages, in the first data blocks. The header is zero first and written last: cut short in between, recovery
+// refuses the image, and lay takes it again.
 pub fn write_reserve(g: Geometry, image: &mut [u8], pages: Pages)
     requires { ⌜ Readable g (now image) × (need g (pages .0) ≤ g .blocks) ⌝ }
     ensures { λ _. ⌜ now (image .exit) ≡ fronted g (movedFront g (pages .0)) (blanked g (now (image .entry))) ⌝ }
 {
+    clear_header(image);
     blank_unused(g, image);
     write_tables(g, image, pages);
 }

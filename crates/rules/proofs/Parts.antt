@@ -13,7 +13,7 @@ use lib.Seq.{ext-getD, getD-take, getD-drop, length-take-le, take-at, drop-at, d
 use Rattle.laws.specs.Folds.{allBelow}
 use Rattle.laws.specs.Bytes.{splice}
 use Rattle.laws.proofs.Folds.{all-ext, all-below, below-all}
-use Rattle.laws.proofs.Lists.{length-part}
+use Rattle.laws.proofs.Lists.{length-part, length-splice, drop-splice-before}
 use Rattle.paper.specs.declared.Geometry.{Geometry}
 use Rattle.paper.specs.Geometry.{blockBytes, Allowed, frontBytes}
 use Rattle.paper.specs.Image.{front, rest, unused, dataOf, blanked}
@@ -102,6 +102,9 @@ module _ (g : Geometry) (A : Allowed g) where
     pub length-blanked : length (blanked g image) ≡ length image
     length-blanked = length-of (front g image) zeros (dataOf g image) full-front wide-zeros ∙ length-data
 
+    rest-blanked : rest g (blanked g image) ≡ zeros ++ dataOf g image
+    rest-blanked = drop-at (front g image) (zeros ++ dataOf g image) fb full-front
+
     -- the test, as it is made of the part that is lent
     pub blank-part : (from to : ℕ) → from ≡ frontBytes g → to ≡ blockBytes g
         → allBelow (length (take (to - from) (drop from image))) (λ k. eqb (getD (take (to - from) (drop from image)) k 0) 0) ≡ unusedBlank g image
@@ -129,3 +132,12 @@ module _ (g : Geometry) (A : Allowed g) where
         passes e =
             below-all (bb - fb) test (λ k l.
             eq-eqb _ _ (sym (unused-at image k l) ∙ ap (λ xs. getD xs k 0) e ∙ getD-replicate (bb - fb) k 0 0 l))
+
+  -- ---- what stands in the front has no part in the blanked rest
+  pub blanked-rest : (ys image : List ℕ) → length ys ≤ frontBytes g → blockBytes g ≤ length image
+      → rest g (blanked g (splice 0 ys image)) ≡ rest g (blanked g image)
+  blanked-rest ys image h long =
+      let w : 0 + length ys ≤ bb = omega (arith, A .reserve) in
+      let l : length (splice 0 ys image) ≡ length image = length-splice 0 ys image (omega arith) in
+      rest-blanked (splice 0 ys image) (rw l long)
+      ∙ rw (drop-splice-before bb 0 ys image w long) (sym (rest-blanked image long))
