@@ -13,12 +13,12 @@ use lib.Seq.{ext-getD, getD-take, getD-drop, length-take-le, take-at, drop-at, d
 use Rattle.laws.specs.Folds.{allBelow}
 use Rattle.laws.specs.Bytes.{splice}
 use Rattle.laws.proofs.Folds.{all-ext, all-below, below-all}
-use Rattle.laws.proofs.Lists.{length-part, length-splice, drop-splice-before}
+use Rattle.laws.proofs.Lists.{length-part}
 use Rattle.paper.specs.declared.Geometry.{Geometry}
 use Rattle.paper.specs.Geometry.{blockBytes, Allowed, frontBytes}
 use Rattle.paper.specs.Image.{front, rest, unused, dataOf, blanked}
 use Rattle.paper.specs.Refusals.{unusedBlank}
-use Rattle.rules.proofs.Cells.{length-front}
+use Rattle.rules.proofs.Cells.{length-front, length-joined}
 
 module _ (g : Geometry) (A : Allowed g) where
   abbrev fb : ℕ
@@ -134,10 +134,8 @@ module _ (g : Geometry) (A : Allowed g) where
             eq-eqb _ _ (sym (unused-at image k l) ∙ ap (λ xs. getD xs k 0) e ∙ getD-replicate (bb - fb) k 0 0 l))
 
   -- ---- what stands in the front has no part in the blanked rest
-  pub blanked-rest : (ys image : List ℕ) → length ys ≤ frontBytes g → blockBytes g ≤ length image
-      → rest g (blanked g (splice 0 ys image)) ≡ rest g (blanked g image)
-  blanked-rest ys image h long =
-      let w : 0 + length ys ≤ bb = omega (arith, A .reserve) in
-      let l : length (splice 0 ys image) ≡ length image = length-splice 0 ys image (omega arith) in
-      rest-blanked (splice 0 ys image) (rw l long)
-      ∙ rw (drop-splice-before bb 0 ys image w long) (sym (rest-blanked image long))
+  pub blanked-rest : (t image : List ℕ) → length t ≡ frontBytes g → blockBytes g ≤ length image
+      → rest g (blanked g (t ++ rest g image)) ≡ rest g (blanked g image)
+  blanked-rest t image full long =
+      let l : length (t ++ rest g image) ≡ length image = length-joined g t image full (omega (arith, A .reserve)) in
+      rest-blanked (t ++ rest g image) (rw l long) ∙ rw (dataOf-joined image long t full) (sym (rest-blanked image long))
