@@ -56,7 +56,7 @@ module _ (g : Geometry) (A : Allowed g) (cap : ℕ) (cap-most : cap ≤ g .block
 
   -- ---- a step goes by what was found before, and never by the page count
   module _ (j : ℕ) (u : List ℕ) (full : length u ≡ frontBytes g) (b : ℕ) where
-    drawn-full : length (drawn g s j b u) ≡ frontBytes g
+    pub drawn-full : length (drawn g (stockOf g t r) j b u) ≡ frontBytes g
     drawn-full = go (decLt j spare)
       where
         go : Dec (j < spare) → length (drawn g s j b u) ≡ frontBytes g

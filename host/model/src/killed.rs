@@ -171,7 +171,7 @@ const NOT_BEGUN: u32 = 0;
 const BEGUN: u32 = 1;
 const DONE: u32 = 2;
 
-/// Makes the call in a process of its own, which is killed so long after it began, or not at all. Answers how long it lived.
+/// Makes the call in a process of its own, which is killed so long after it began, or not at all. Answers how long it had.
 fn run<Name: Named>(
     manager: Manager<Name>,
     name: Name,
@@ -193,19 +193,26 @@ fn run<Name: Named>(
         // SAFETY: the child's end.
         unsafe { _exit(0) };
     }
-    while state.load(Ordering::SeqCst) == NOT_BEGUN {
-        std::hint::spin_loop();
-    }
+    until(|| state.load(Ordering::SeqCst) != NOT_BEGUN);
     let begun = Instant::now();
-    if let Some(wait) = killed {
-        while begun.elapsed() < wait {
-            std::hint::spin_loop();
+    match killed {
+        Some(wait) => {
+            until(|| begun.elapsed() >= wait);
+            // SAFETY: the child, which nobody has waited for yet.
+            unsafe { kill(child, KILL) };
         }
-        // SAFETY: the child, which nobody has waited for yet.
-        unsafe { kill(child, KILL) };
+        None => until(|| state.load(Ordering::SeqCst) == DONE),
     }
+    let took = begun.elapsed();
     let mut status = 0;
     // SAFETY: as above.
     assert_eq!(unsafe { waitpid(child, &mut status, 0) }, child, "{}", Error::last_os_error());
-    begun.elapsed()
+    took
+}
+
+/// Waits without a rest, since what is waited for comes within microseconds.
+fn until(come: impl Fn() -> bool) {
+    while !come() {
+        std::hint::spin_loop();
+    }
 }
