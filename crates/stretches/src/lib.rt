@@ -175,8 +175,8 @@ pub fn zero_at(g: Geometry, image: &mut [u8], b: Block, spot: Spot, left: usize)
     requires { ⌜ Allowed g × (spot .within < blockBytes g) × (dataAt g (b .0) + blockBytes g ≤ length (now image)) ⌝ }
     ensures { λ k. ⌜ (k ≡ inBlock g spot left) × (now (image .exit) ≡ splice (dataAt g (b .0) + spot .within) (replicate (inBlock g spot left) 0) (now (image .entry))) ⌝ }
 {
-    let at = g.data_at(b) + spot.within;
+    let from = g.data_at(b) + spot.within;
     let n = in_block(g, spot, left);
-    numbers::zero_part(image, at, at + n);
+    numbers::zero_part(image, from, from + n);
     n
 }

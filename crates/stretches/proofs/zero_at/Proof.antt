@@ -16,8 +16,8 @@ found c = c .before .before
 data-at-requires : tie.Need-data-at-requires
 data-at-requires c κs = search needs
 
-add-at : tie.Need-add-at
-add-at c = search needs
+add-from : tie.Need-add-from
+add-from c = search needs
 
 in-block-requires : tie.Need-in-block-requires
 in-block-requires c κs = search needs
@@ -45,7 +45,7 @@ zero-at-spec =
     tie.close
     (tie.spec
     data-at-requires
-    add-at
+    add-from
     in-block-requires
     add-zero-part
     zero-part-requires
