@@ -107,27 +107,32 @@ impl<Name: Named> Desk<Name> {
     /// A book with bytes in every page, released; another that has begun to grow over its blocks. Then the calls to be killed
     /// in, the growth by reused pages first: some of them in the block that the book holds, the others in reclaimed ones.
     fn cases(&mut self, random: &mut Random) -> Vec<Case> {
-        let (p, s) = (self.g.pages, self.g.page);
         self.make(Call::Lay, &mut []);
         let first = self.opened();
-        self.make(Call::Grow { region: first, pages: 3 * p + p / 3 }, &mut []);
-        let mut bids = vec![0; ((3 * p + p / 3) * s) as usize];
+        self.make(Call::Grow { region: first, pages: HELD + GROWTH }, &mut []);
+        let mut bids = vec![0; ((HELD + GROWTH) * self.g.page) as usize];
         random.fill(&mut bids);
         bids.iter_mut().for_each(|byte| *byte |= 1);
         self.make(Call::Store { region: first, offset: 0 }, &mut bids);
         self.make(Call::Release { region: first }, &mut []);
         let second = self.opened();
-        self.make(Call::Grow { region: second, pages: p / 4 }, &mut []);
-        let growth = self.case(Call::Grow { region: second, pages: 2 * p + p / 3 }, Vec::new());
-        self.make(Call::Grow { region: second, pages: 2 * p + p / 3 }, &mut []);
-        let store = self.case(Call::Store { region: second, offset: 7 }, bids[..(p * s) as usize + 100].to_vec());
-        let release = self.case(Call::Release { region: second }, Vec::new());
-        vec![growth, store, release]
+        self.make(Call::Grow { region: second, pages: HELD }, &mut []);
+        let growth = Call::Grow { region: second, pages: GROWTH };
+        let cut_in_growth = self.case(growth, Vec::new());
+        self.make(growth, &mut []);
+        let half = bids.len() / 2;
+        let cut_in_store = self.case(Call::Store { region: second, offset: 7 }, bids[..half].to_vec());
+        let cut_in_release = self.case(Call::Release { region: second }, Vec::new());
+        vec![cut_in_growth, cut_in_store, cut_in_release]
     }
 }
 
-/// Kills so many processes that make a call on an image of five blocks in a mapped file, four of five in a growth by reused
-/// pages. Answers what was found, and how many of the calls were not done yet.
+/// The pages that the second book has, and those by which it grows.
+const HELD: u64 = 32;
+const GROWTH: u64 = 300;
+
+/// Kills so many processes that make a call on an image in a mapped file, four of five in a growth by reused pages. Answers
+/// what was found, and how many of the calls were not done yet.
 pub fn kills<Name: Named>(
     manager: Manager<Name>,
     name: Name,
@@ -136,36 +141,39 @@ pub fn kills<Name: Named>(
 ) -> Result<(Instants, u64), String> {
     let g: Geometry = name.into();
     let mut random = Random::new(seed);
-    let bytes = (6 * g.block_bytes()) as usize;
+    let bytes = ((g.need(u128::from(HELD + GROWTH)) as u64 + 1) * g.block_bytes()) as usize;
     let mut desk = Desk { manager, name, g, image: vec![0; bytes], index: vec![0; g.index_bytes()] };
     let cases = desk.cases(&mut random);
     let mut file = Shared::file(bytes);
-    let state = Shared::new(4_096, SHARED_ANONYMOUS, -1);
-    // SAFETY: the page's first four bytes, which are only ever used so.
-    let state = unsafe { &*state.base.cast::<AtomicU32>() };
+    let page = Shared::new(4_096, SHARED_ANONYMOUS, -1);
+    // SAFETY: the page's first four bytes, which are only ever used so, and no longer than the page is there.
+    let state = unsafe { &*page.base.cast::<AtomicU32>() };
+    let mut whole = |case: &Case| {
+        file.bytes().copy_from_slice(&case.image);
+        let took = run(manager, name, case, &mut file, state, None);
+        let found = case.cut.judge(file.bytes());
+        assert_eq!(found, Ok(Found::New), "{:?} carried to its end", case.call);
+        took
+    };
+    let quickest: Vec<Duration> =
+        cases.iter().map(|case| (0..RUNS).map(|_| whole(case)).min().expect("some runs")).collect();
     let mut instants = Instants::default();
     let mut cut_short = 0;
-    let mut lasts = vec![Duration::ZERO; cases.len()];
     for kill in 0..tries {
         let nth = if random.below(5) < 4 { 0 } else { random.below(cases.len() as u64) as usize };
         let case = &cases[nth];
         file.bytes().copy_from_slice(&case.image);
-        let again = lasts[nth] == Duration::ZERO;
-        let wait = lasts[nth].mul_f64(random.below(1_000) as f64 / 1_000.0);
-        let took = run(manager, name, case, &mut file, state, (!again).then_some(wait));
-        if again {
-            lasts[nth] = took;
-        } else if state.load(Ordering::SeqCst) == BEGUN {
-            cut_short += 1;
-        }
+        let wait = quickest[nth].mul_f64(random.below(1_000) as f64 / 1_000.0);
+        run(manager, name, case, &mut file, state, Some(wait));
+        cut_short += u64::from(state.load(Ordering::SeqCst) != DONE);
         let found = case.cut.judge(file.bytes()).map_err(|fault| format!("kill {kill}, {:?}: {fault}", case.call))?;
-        if again && found != Found::New {
-            return Err(format!("{:?} carried to its end leaves {found:?}", case.call));
-        }
         instants.count(case.call, &[found]);
     }
     Ok((instants, cut_short))
 }
+
+/// Runs of a call that are carried to their end, to know how long it takes.
+const RUNS: u64 = 5;
 
 const NOT_BEGUN: u32 = 0;
 const BEGUN: u32 = 1;
