@@ -27,6 +27,11 @@ use Rattle.keeping.proofs.Grow.{grown-all}
 use Rattle.tables.specs.declared.Stock.{Stock}
 use Rattle.tables.specs.Grant.{stockOf, nextBlock, blockAfter, Found, FoundAt, Grantable}
 
+-- the stock, number by number
+pub stock-is : (g : Geometry) (t : List ℕ) (r : ℕ) (s : Stock) → (s .held ≡ needOf g t r) × (s .spare ≡ needOf g t reclaimed) × (s .taken ≡ taken g t)
+    → s ≡ stockOf g t r
+stock-is g t r s e = rw (← e .0, ← e .1, ← e .2)
+
 module _ (g : Geometry) (A : Allowed g) (cap : ℕ) (cap-most : cap ≤ g .blocks) (r : ℕ) (mine : callable r ≡ true) (t : List ℕ) (F : Formed g cap t)
     (o : isOpen g t r ≡ true) (index : List ℕ) (e : index ≡ indexOf g t) where
   -- the front after j grants, as the paper tells them

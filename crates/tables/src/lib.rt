@@ -23,7 +23,7 @@ pub struct Stock {
 
 pub fn take_stock(g: Geometry, image: &[u8], region: Region) -> Stock
     requires { ⌜ Readable g (now image) ⌝ }
-    ensures { λ s. ⌜ s ≡ stockOf g (front g (now (image .entry))) (region .0) ⌝ }
+    ensures { λ s. ⌜ (s .held ≡ needOf g (front g (now (image .entry))) (region .0)) × (s .spare ≡ needOf g (front g (now (image .entry))) reclaimed) × (s .taken ≡ taken g (front g (now (image .entry)))) ⌝ }
 {
     Stock {
         held: image::need(g, image, region) as usize,

@@ -13,6 +13,7 @@ use Rattle.rules.proofs.Lines.{ordered-entered}
 use Rattle.stretches.specs.Stretch.{offsetOf, inBlock, IsSpot, Walk}
 use Rattle.stretches.proofs.Walks.{spot-offset, spot-first, walk-start, walk-end, walk-in, walk-inside, walk-falls, walk-on, writtenTo, written-none, written-on, written-all}
 use Rattle.tables.specs.Grant.{blockAfter, stockOf}
+use Rattle.tables.proofs.Spare.{stock-is}
 use Rattle.books.proofs.Left.{readable}
 use Rattle.books.proofs.Growing.{findable, block-inside, pages-most, bytes-most, last-touched, zeros-found}
 use native.Mathlib.Omega.{arith}
@@ -38,6 +39,12 @@ stock c = c .before
 
 abbrev counted : tie.At-loop Inv-loop μ-loop → tie.After-struct-known Inv-loop μ-loop
 counted c = c .before .before .before
+
+-- which is that of the tables before
+taken-from : (c : tie.After-take-stock Inv-loop μ-loop)
+    → let a = start c .args in
+    c .take-stock .result ≡ stockOf (a .g) (front (a .g) (a .image .now)) (a .region .0)
+taken-from c = let a = start c .args in stock-is (a .g) (front (a .g) (a .image .now)) (a .region .0) (c .take-stock .result) (c .take-stock .ensures)
 
 -- the new pages' first byte turned
 turned : (c : tie.After-spot Inv-loop μ-loop)
@@ -107,7 +114,7 @@ block-after-requires c κs =
     let a = s .args in
     let O = s .pre .0 .ordered in (
       record { allowed = O .geometry; long = ordered-entered (a .g) (a .image .now) (a .index .now) O .indexed },
-      rw (k .take-stock .ensures) (findable (a .g) (a .image .now) (a .index .now) (a .region .0) (a .pages .0) (s .pre .0) (c .before .loop .at .position .0) (in-book c)),
+      rw (taken-from k) (findable (a .g) (a .image .now) (a .index .now) (a .region .0) (a .pages .0) (s .pre .0) (c .before .loop .at .position .0) (in-book c)),
     )
 
 zero-at-requires : tie.Need-zero-at-requires Inv-loop μ-loop
@@ -119,7 +126,7 @@ zero-at-requires c κs =
     let a = s .args in (
       s .pre .0 .ordered .geometry,
       inner turn,
-      rw (found .block-after .ensures, k .take-stock .ensures, turn .before .loop .inv .1)
+      rw (found .block-after .ensures, taken-from k, turn .before .loop .inv .1)
           (block-inside (a .g) (a .image .now) (a .index .now) (a .region .0) (a .pages .0) (s .pre .0) (turn .before .loop .at .position .0) (in-book turn)),
     )
 
@@ -189,7 +196,7 @@ returns c =
     (rw (turned (c .before .before) .offset, e) at (x .inv .2))
     ∙ written-all g (blockAfter g (a .index .now) r (k .take-stock .result)) o (zeros n) i A need
     (rw length-replicate (last-touched g i (a .index .now) r (a .pages .0) W))
-    ∙ ap (λ q. stored g (blockAfter g (a .index .now) r q) need o (zeros n) i) (k .take-stock .ensures)
+    ∙ ap (λ q. stored g (blockAfter g (a .index .now) r q) need o (zeros n) i) (taken-from k)
     ∙ zeros-found g i (a .index .now) r (a .pages .0) W
 
 pub zero-new-spec : {M : Type 1} → statement M

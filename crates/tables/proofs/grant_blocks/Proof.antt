@@ -8,7 +8,8 @@ use Rattle.laws.proofs.Folds.{steps-none, steps-more}
 use Rattle.paper.specs.Image.{front}
 use Rattle.rules.specs.Facts.{fronted}
 use Rattle.rules.proofs.Fronts.{still-readable, unchanged, then}
-use Rattle.tables.specs.Grant.{placed}
+use Rattle.tables.specs.Grant.{stockOf, placed}
+use Rattle.tables.proofs.Spare.{stock-is}
 use native.Mathlib.Omega.{arith}
 use borrow.Author.Needs.{needs}
 use Rattle.tables.proofs.grant_blocks.Statement.{statement}
@@ -27,6 +28,12 @@ start c = c .before .before .before .before
 
 abbrev stock : tie.At-loop Inv-loop μ-loop → tie.After-take-stock Inv-loop μ-loop
 stock c = c .before
+
+-- which is that of the tables before
+taken-from : (c : tie.After-take-stock Inv-loop μ-loop)
+    → let a = start c .args in
+    c .take-stock .result ≡ stockOf (a .g) (front (a .g) (a .image .now)) (a .region .0)
+taken-from c = let a = start c .args in stock-is (a .g) (front (a .g) (a .image .now)) (a .region .0) (c .take-stock .result) (c .take-stock .ensures)
 
 -- the front after the blocks granted so far
 abbrev so-far : tie.At-loop Inv-loop μ-loop → List ℕ
@@ -49,7 +56,7 @@ grant-requires c κs =
     let a = s .args in
     let x = at .loop in (
       (still-readable (a .g) (a .image .now) (x .image) (s .pre .0 .0) (x .inv .1), s .pre .0 .1),
-      rw (stock at .take-stock .ensures) (s .pre .1 (x .j) (omega arith)),
+      rw (taken-from (stock at)) (s .pre .1 (x .j) (omega arith)),
     )
 
 add-j : tie.Need-add-j Inv-loop μ-loop
@@ -84,7 +91,7 @@ returns c =
     let e : x .j ≡ a .count = omega arith in
     (rw e at (x .inv .2))
     ∙ ap (λ s. fronted (a .g) (steps (a .count) (placed (a .g) (a .index .now) (a .region .0) s) (front (a .g) (a .image .now))) (a .image .now))
-    (stock at .take-stock .ensures)
+    (taken-from (stock at))
 
 pub grant-blocks-spec : {M : Type 1} → statement M
 grant-blocks-spec =
