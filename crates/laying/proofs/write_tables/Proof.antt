@@ -2,7 +2,7 @@
 use mathlib.Core.Path.{_∙_, ap}
 use Rattle.laws.specs.Folds.{joinBelow}
 use Rattle.laws.specs.Bytes.{splice}
-use Rattle.paper.specs.Geometry.{headerBytes, version, fixedRegions, sizeAt}
+use Rattle.paper.specs.Geometry.{version, fixedRegions, sizeAt}
 use Rattle.paper.specs.Image.{writtenHeader, entryRow, sizeRow}
 use Rattle.paper.specs.Move.{movedOwner, movedPlace, movedSize}
 use Rattle.rules.proofs.Fronts.{front-fits}
