@@ -1,5 +1,5 @@
 -- `books::extend` meets its contract.
-use mathlib.Core.Path.{_≡_, _∙_, ap}
+use mathlib.Core.Path.{_∙_, ap}
 use Rattle.paper.specs.Image.{front}
 use Rattle.paper.specs.Index.{indexOf}
 use Rattle.paper.specs.Calls.{grownFront}

@@ -1,6 +1,6 @@
 -- `books::zero_new` meets its contract: before the spot's block the image is that of a store of zeros, up to there.
-use Prim.Native.Nat.{_+_, _-_, _*_, _^_, _<_}
-use mathlib.Core.Path.{_≡_, refl, sym, _∙_, ap}
+use Prim.Native.Nat.{_-_, _*_, _<_}
+use mathlib.Core.Path.{_≡_, refl, _∙_, ap}
 use lib.ListN.{length, length-replicate}
 use Rattle.laws.proofs.Lists.{zeros, zeros-part}
 use Rattle.paper.specs.Geometry.{blockBytes}

@@ -2,7 +2,7 @@
 use mathlib.Core.Path.{_∙_, ap}
 use Rattle.laws.specs.Folds.{joinBelow}
 use Rattle.laws.specs.Bytes.{splice}
-use Rattle.paper.specs.Geometry.{headerBytes, fixedRegions, sizeAt}
+use Rattle.paper.specs.Geometry.{fixedRegions, sizeAt}
 use Rattle.paper.specs.Image.{writtenHeader, entryRow, sizeRow}
 use Rattle.paper.specs.Calls.{versionNumber}
 use Rattle.paper.specs.Move.{movedOwner, movedPlace, movedSize}

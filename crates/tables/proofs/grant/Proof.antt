@@ -5,7 +5,6 @@ use Rattle.paper.specs.Image.{front, setEntry}
 use Rattle.rules.specs.Facts.{fronted}
 use Rattle.rules.proofs.Fronts.{then}
 use Rattle.tables.specs.Grant.{drawn}
-use native.Mathlib.Omega.{arith}
 use borrow.Author.Needs.{needs}
 use Rattle.tables.proofs.grant.Statement.{statement}
 use Rattle.tables.proofs.grant.Tie as tie
