@@ -1,13 +1,16 @@
-//! Document 01 in plain Rust, and the comparison of a book manager with it.
+//! Documents 01 and 02 in plain Rust, and the comparison of a book manager with them.
 //!
-//! [`paper`] is the model: direct, slow, and written from the document alone. The rest makes calls at random, on images of
-//! every kind, and holds each answer and each lent byte of a manager to the model's.
+//! [`paper`] is the model: direct, slow, and written from the documents alone. The rest makes calls at random, on images of
+//! every kind, and holds each answer and each lent byte of a manager to the model's. [`clerk`] holds a manager to what its
+//! own answers say, and knows nothing of tables.
 
 pub mod calls;
+pub mod clerk;
 pub mod compare;
 pub mod damage;
 pub mod desk;
 pub mod geometries;
+pub mod made_up;
 pub mod mapped;
 pub mod memory;
 pub mod paper;
