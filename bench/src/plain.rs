@@ -1,6 +1,6 @@
-//! An ordinary book manager in plain Rust: the checks, answers and bytes of the paper, in both versions, with no proof. Passes over the
-//! tables are linear, the lent index is its own witness, and a bitmap finds pairs that are named twice. The calls are never
-//! inlined, as those of an archive cannot be.
+//! An ordinary book manager in plain Rust: the checks, answers and bytes of the paper, in both versions, with no proof. Passes
+//! over the tables are linear, the lent index is its own witness, and a bitmap finds pairs that are named twice. The calls are
+//! never inlined, as those of an archive cannot be.
 
 use std::ops::Range;
 
@@ -39,8 +39,8 @@ fn u64_of(bytes: &[u8]) -> u64 {
     u64::from_le_bytes(bytes.try_into().expect("eight bytes"))
 }
 
-/// The bits of a region's entry that hold its page count: all of them, or in version 3 the lower half. All ones is "not open". The others
-/// hold the edition.
+/// The bits of a region's entry that hold its page count: all of them, or in version 3 the lower half. All ones is "not open".
+/// The others hold the edition.
 #[derive(Clone, Copy)]
 struct SizeMask(u64);
 
@@ -76,7 +76,7 @@ impl SizeMask {
 
     /// The entry of a region that is not open, its edition one higher where there is one.
     fn closed(self, entry: u64) -> u64 {
-        (entry & !self.0).wrapping_add(!self.0 & 1 << 32) | self.0
+        (entry & !self.0) + (!self.0 & 1 << 32) | self.0
     }
 }
 

@@ -1,5 +1,5 @@
-/* One sale in C: a book is opened and bids are stored in it; the index is lost; the image alone brings the bids back. Then the book is
- * released and its region opened for another sale, and a late bid for the first is refused. */
+/* One sale in C: a book is opened and bids are stored in it; the index is lost; the image alone brings the bids back. Then the book
+ * is released and its region opened for another sale, and a late bid for the first is refused. */
 #include <stdio.h>
 #include <string.h>
 

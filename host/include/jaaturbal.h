@@ -14,11 +14,11 @@
  * An image has room for the blocks that fit in it whole, less the first. Regions 1 to 15 are no caller's: 1 holds the blocks that
  * releases gave back, and an image may come with pages in 2 to 15, which take up room and which no call reads or changes.
  *
- * Versions. In an image of version 3 a region's first book is of edition 0, and each release makes the next book's edition one higher.
- * So no two opens give the same region and edition, and a name that was released is refused for ever: while the region is not open
- * with BOOK_REGION_NOT_USABLE, and when it is open for another book with BOOK_EDITION_WRONG. A region whose edition has come to
- * 4,294,967,295 is never opened again. In an image of version 2 every edition is 0, and the next book of a region has the same name
- * as the last. Every call but lay and move takes either version, as the image's header tells it, and leaves it as it is.
+ * Versions. In an image of version 3 a region's first book is of edition 0, and each release makes the next one's edition one
+ * higher. So no two opens give the same region and edition, and a name that was released is refused for ever: while the region is
+ * not open with BOOK_REGION_NOT_USABLE, and when it is open for another book with BOOK_EDITION_WRONG. A region whose edition has
+ * come to 4,294,967,295 is never opened again. In an image of version 2 every edition is 0, and the next book of a region has the
+ * same name as the last. Every call but lay and move takes either version, as the image's header tells it, and leaves it.
  *
  * Memory. Every slice is a pointer, which is not NULL, and the count of bytes behind it. A slice that a call may write (a pointer
  * without const) must overlap with no other slice of that call. Slices that are only read may overlap. No call keeps a pointer,
@@ -70,9 +70,9 @@ enum book_refusal {
     BOOK_TOO_FEW_BLOCKS = 13,        /* move, and the image has no block more than the old memory, or the geometry too few */
     BOOK_NEWER_RELEASE = 16,         /* recover, and a byte between the tables and the end of the first block is not zero: an image
                                       * of a newer release */
-    BOOK_EDITION_WRONG = 18          /* the region is open, and its book is of another edition than was named: that book was released,
-                                      * and the region may be another's by now. Drop the name; do not try other editions. In version 2
-                                      * every edition but 0 is wrong */
+    BOOK_EDITION_WRONG = 18          /* the region is open, and its book is of another edition: the one that was named was released,
+                                      * and the region is another's by now. Drop the name; do not try other editions. In version
+                                      * 2 every edition but 0 is wrong */
 };
 
 /* Writes the header and tables of an image of version 3 with no books but those that are always there, zeros in the rest of its
@@ -83,10 +83,10 @@ uint64_t book_lay(uint32_t geometry, uint8_t *image, size_t image_bytes, uint8_t
 uint64_t book_lay_version_2(uint32_t geometry, uint8_t *image, size_t image_bytes, uint8_t *index, size_t index_bytes);
 
 /* Makes an image of version 2 of an older memory, which has no header and no tables: so many pages of bytes from the image's first
- * byte on. They become the book of region 0, byte for byte. The first block is copied past the last one of the memory, and then its place
- * becomes the header and the tables; the first 16 bytes may hold anything. Bytes past those blocks stay. The image must have one
- * whole block more than the memory needs. Move a copy: a call that is cut short has not harmed the memory before the copy of its
- * first block is whole, and afterwards the memory's own first block is gone. Value 0. Checks 1, 2, 3, 13. */
+ * byte on. They become the book of region 0, byte for byte. The first block is copied past the last one of the memory, and then
+ * its place becomes the header and the tables; the first 16 bytes may hold anything. Bytes past those blocks stay. The image must
+ * have one whole block more than the memory needs. Move a copy: a call that is cut short has not harmed the memory before the copy
+ * of its first block is whole, and afterwards the memory's own first block is gone. Value 0. Checks 1, 2, 3, 13. */
 uint64_t book_move(uint32_t geometry, uint8_t *image, size_t image_bytes, uint8_t *index, size_t index_bytes, uint64_t pages);
 
 /* Opens an empty book. Its region and edition are the value: take it apart by BOOK_REGION and BOOK_EDITION. Checks 1 to 7, 11. */
@@ -107,8 +107,8 @@ uint64_t book_store(uint32_t geometry, uint8_t *image, size_t image_bytes, const
 /* The value is the book's pages. Checks 1, 3, 4, 5, 8, 18, 6. */
 uint64_t book_size(uint32_t geometry, const uint8_t *image, size_t image_bytes, uint32_t region, uint32_t edition);
 
-/* Closes a book. Its blocks are given to books that grow later; their bytes stay until then. In version 3 its name is gone for ever.
- * Value 0. Checks 1 to 8, 18. */
+/* Closes a book. Its blocks are given to books that grow later; their bytes stay until then. In version 3 its name is gone for
+ * ever. Value 0. Checks 1 to 8, 18. */
 uint64_t book_release(uint32_t geometry, uint8_t *image, size_t image_bytes, uint8_t *index, size_t index_bytes,
                       uint32_t region, uint32_t edition);
 

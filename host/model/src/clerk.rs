@@ -1,5 +1,6 @@
-//! Demand 3's clerk, as request R-12 of document 02 has it: keeps the books by region and edition, from the calls and their answers alone, and
-//! says what every later call must answer. Of the tables it knows nothing but the books that an image comes with.
+//! Demand 3's clerk, as request R-12 of document 02 has it: keeps the books by region and edition, from the calls and their
+//! answers alone, and says what every later call must answer. Of the tables it knows nothing but the books that an image comes
+//! with.
 
 use std::collections::{BTreeMap, BTreeSet};
 
@@ -189,8 +190,8 @@ struct Hall<Name> {
     seen: Seen,
 }
 
-/// Makes so many histories of calls at one geometry, each in one of the versions, from a laid image or from one with books, and holds every answer
-/// and every book to the clerk's.
+/// Makes so many histories of calls at one geometry, each in one of the versions, from a laid image or from one with books, and
+/// holds every answer and every book to the clerk's.
 pub fn kept<Name: Named>(manager: Manager<Name>, name: Name, histories: u64, seed: u64) -> Seen {
     let mut seen = Seen::default();
     for history in 0..histories {

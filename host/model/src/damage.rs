@@ -115,8 +115,8 @@ fn book(g: Geometry, focus: Option<u64>, image: &mut [u8], random: &mut Random) 
     }
 }
 
-/// A region's edition: of one that is always open, of one that was not given out yet, of a book, or of one that was released. In version 2 the
-/// same bytes are the upper half of a page count.
+/// A region's edition: of one that is always open, of one that was not given out yet, of a book, or of one that was released.
+/// In version 2 the same bytes are the upper half of a page count.
 fn edition(g: Geometry, focus: Option<u64>, image: &mut [u8], random: &mut Random) {
     let view = View { g, image, focus };
     let beyond = random.between(view.counter().min(g.entries - 1), g.entries - 1);

@@ -1,5 +1,5 @@
-//! Images of version 3 made up around one region: open or not, below C or from C on, with an edition at each edge. Every sentence that
-//! request R-12 of document 02 adds to rule a is broken by some of them, and by each alone.
+//! Images of version 3 made up around one region: open or not, below C or from C on, with an edition at each edge. Each
+//! sentence that request R-12 of document 02 adds to rule a is broken by some of them, which break nothing else.
 
 use crate::calls::View;
 use crate::compare::{Asked, judge};

@@ -196,9 +196,9 @@ macro_rules! reasons {
     };
 }
 
-// A rule's reasons begin with its letter. Those of 16 tell where the first byte stands that is not zero: at either end or between. Rule b
-// holds for the books kept back as for any: they have a reason of their own so that it is seen to come. An edition is wrong in three ways: it
-// is of a book that was released, or of one that is still to come, or is not 0 in version 2.
+// A rule's reasons begin with its letter. Those of 16 tell where the first byte stands that is not zero: at either end or
+// between. Rule b holds for the books kept back as for any: they have a reason of their own so that it is seen to come. An
+// edition is wrong in three ways: it is of a book that was released, or of one that is still to come, or is not 0 in version 2.
 reasons! {
     Geometry: 1,
     IndexLength: 2,
@@ -296,7 +296,8 @@ pub const UNUSED_SLOT: u64 = 65_535;
 /// The regions that are kept back. They may hold pages, which came with the image.
 pub const KEPT_BACK: Range<usize> = 2..16;
 
-/// The version, the counts and both tables of an image. A book that is not open has no page count. In version 2 every edition is 0.
+/// The version, the counts and both tables of an image. A book that is not open has no page count. In version 2 every edition
+/// is 0.
 #[derive(Clone, Debug, PartialEq)]
 pub struct Tables {
     pub version: Version,

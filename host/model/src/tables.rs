@@ -1,5 +1,5 @@
-//! Well-formed tables drawn at random: books of all sizes, those kept back among them, their blocks in any order; in version 3, with
-//! editions at every edge.
+//! Well-formed tables drawn at random: books of all sizes, those kept back among them, their blocks in any order; in version 3,
+//! with editions at every edge.
 
 use crate::paper::{Geometry, KEPT_BACK, LAST_EDITION, Tables, Version};
 use crate::random::Random;

@@ -22,7 +22,8 @@ fn many(seed: u64) -> Vec<Tables> {
     all
 }
 
-/// Each edge in open regions and in such that are not, but for the last edition, at which no region is open; the largest region among them.
+/// Each edge in open regions and in such that are not, but for the last edition, at which no region is open; the largest region
+/// among them.
 #[test]
 fn editions_of_all_kinds() {
     let all = many(5);

@@ -29,16 +29,16 @@ impl<I: AsRef<[u8]> + AsMut<[u8]>> Books<I> {
         Ok(Books { geometry, image, index })
     }
 
-    /// The same of version 2, for those who read nothing newer. Its books are all of edition 0: a name that was released comes to mean the
-    /// next book of its region.
+    /// The same of version 2, for those who read nothing newer. Its books are all of edition 0: a name that was released comes
+    /// to mean the next book of its region.
     pub fn lay_version_2(geometry: Geometry, mut image: I) -> Result<Books<I>, Refusal> {
         let mut index = vec![0; geometry.index_bytes()];
         answer(calls::lay_version_2(geometry.number(), image.as_mut(), &mut index))?;
         Ok(Books { geometry, image, index })
     }
 
-    /// The books of an older memory, which has no header and no tables: so many pages of bytes from the first byte on. They become
-    /// [`Book::ANONYMOUS`], byte for byte, in an image of version 2; it must have one whole block more than they need.
+    /// The books of an older memory, which has no header and no tables: so many pages of bytes from the first byte on. They
+    /// become [`Book::ANONYMOUS`], byte for byte, in an image of version 2; it must have one whole block more than they need.
     ///
     /// The memory's first block is copied past its last one, and then its place becomes the header and the tables. A call that is
     /// cut short after the copy has destroyed the memory's own first block: move a copy.

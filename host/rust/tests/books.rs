@@ -64,7 +64,8 @@ fn regions_run_out() {
     assert_eq!(books.open(), Ok(Book { region: 18, edition: 1 }));
 }
 
-/// A name that was released is refused, by 8 and then, when its region is opened for another, by 18. In version 2 it comes to mean that other.
+/// A name that was released is refused, by 8 and then, when its region is opened for another, by 18. In version 2 it comes to
+/// mean that other.
 #[test]
 fn stale_names() {
     for (version_2, laid) in [(false, Books::lay as fn(_, _) -> _), (true, Books::lay_version_2)] {

@@ -1,5 +1,5 @@
-//! The proved calls against the model of documents 01 and 02, in both versions: every answer, and every byte of image, index and buffer. And
-//! against their own answers, as a clerk notes them down.
+//! The proved calls against the model of documents 01 and 02, in both versions: every answer, and every byte of image, index
+//! and buffer. And against their own answers, as a clerk notes them down.
 
 use jaaturbal::calls;
 use jaaturbal_model::clerk::{self, Seen};
