@@ -1,6 +1,6 @@
 -- A number of the front, read and written in the image.
 use Prim.Native.Nat.{ℕ, _+_, _≤_, _<_}
-use mathlib.Core.Bool.{Bool, true, false, not, cond}
+use mathlib.Core.Bool.{true, false, not}
 use mathlib.Core.Path.{_≡_, sym, _∙_, ap}
 use mathlib.Core.List.{List}
 use native.Mathlib.Omega.{arith}
@@ -14,7 +14,7 @@ use Rattle.laws.proofs.Lists.{take-splice, drop-splice-before, splice-first}
 use Rattle.laws.proofs.Bytes.{length-le, length-put}
 use Rattle.laws.proofs.Known.{Bytes, num-fits}
 use Rattle.paper.specs.declared.Geometry.{Geometry}
-use Rattle.paper.specs.Geometry.{versionAt, takenAt, counterAt, version3, halfBytes, sizeBytes, allOnes, entryAt, sizeAt, editionAt, frontBytes}
+use Rattle.paper.specs.Geometry.{versionAt, takenAt, counterAt, version3, halfBytes, allOnes, entryAt, sizeAt, editionAt, frontBytes}
 use Rattle.paper.specs.Image.{notOpen, holds, decoded, sizeWidth, front, rest, versionOf, taken, counter, owner, place, sizeOf, editionOf, isOpen}
 use Rattle.rules.proofs.Cells.{width-most, decoded-pages, decoded-not-open, num-front, front-joined}
 use Rattle.rules.proofs.Facts.{is-open, is-not-open}
@@ -67,16 +67,17 @@ module _ (g : Geometry) (image : List ℕ) where
 
   module _ (r : ℕ) (h : r < g .entries) where
     -- of w bytes, as many as its version keeps for it
-    module _ (w n : ℕ) (d : sizeWidth (versionOf g (front g image)) ≡ w) (e : n ≡ num w image (sizeAt g r)) where
-      size-read : sizeOf g (front g image) r ≡ decoded w n
-      unfolding sizeOf
-      size-read = let v = versionOf g (front g image) in rw (d, num-front g image w (sizeAt g r) (omega (arith, width-most v)), ← e)
+    pub size-read : (w : ℕ) → sizeWidth (versionOf g (front g image)) ≡ w → sizeOf g (front g image) r ≡ decoded w (num w image (sizeAt g r))
+    unfolding sizeOf
+    size-read w d = rw (d, num-front g image w (sizeAt g r) (omega (arith, width-most (versionOf g (front g image)))))
 
+    -- what a number of w bytes says of it
+    module _ (w n : ℕ) (s : sizeOf g (front g image) r ≡ decoded w n) where
       pub size-open : (n ≡ allOnes w → ⊥) → sizeOf g (front g image) r ≡ holds n
-      size-open ne = size-read ∙ decoded-pages w n ne
+      size-open ne = s ∙ decoded-pages w n ne
 
       pub size-not-open : n ≡ allOnes w → sizeOf g (front g image) r ≡ notOpen
-      size-not-open z = size-read ∙ rw z (decoded-not-open w)
+      size-not-open z = s ∙ rw z (decoded-not-open w)
 
       pub open-read : not (eqb n (allOnes w)) ≡ isOpen g (front g image) r
       open-read = go (ℕ-discrete n (allOnes w))

@@ -3,11 +3,11 @@
 use Prim.Native.Nat.{ℕ, _+_, _-_, _*_, _/_, _≤_, _<_}
 use mathlib.Core.Bool.{true, false, not, _||_, cond}
 use mathlib.Core.Logic.{_≢_, _↔_}
-use mathlib.Core.Path.{_≡_, refl, sym, _∙_}
+use mathlib.Core.Path.{_≡_, refl, sym, _∙_, ap}
 use mathlib.Core.List.{List, [], _∷_, _++_}
 use native.Mathlib.Omega.{arith}
 use native.Mathlib.Decide.{ℕ-discrete}
-use borrow.Author.Tests.{eqb-true, eqb-false, eq-eqb, ne-eqb, ltb-false, le-ltb, leb-true, leb-false, le-leb, lt-leb, not-true, not-false}
+use borrow.Author.Tests.{eqb-true, eqb-false, eq-eqb, ne-eqb, ltb-false, le-ltb, leb-true, leb-false, le-leb, lt-leb, not-false}
 use lib.Dec.{eqb, leb, ltb}
 use lib.ListN.{getD, length}
 use lib.Seq.{getD-take}
@@ -871,3 +871,30 @@ accepted-number g (look r d o) s = refl
 accepted-number g (size r d) s = refl
 accepted-number g (release r d) s = refl
 accepted-number g recover s = refl
+
+-- only an open gives a book
+not-opened : {A : Type 0} (v r e : ℕ) → Done v ≡ opening r e → A
+not-opened v r e d = let z : _≡_ {A = ℕ} 0 1 = cc in absurd (omega arith)
+
+accepted-opens : (g : Geometry) (c : Call) (s : State) (r e : ℕ) → accepted g c s .answer ≡ opening r e → c ≡ «open»
+unfolding accepted
+accepted-opens g (lay v) s r e d = not-opened 0 r e d
+accepted-opens g «open» s r e d = refl
+accepted-opens g (grow q x n) s r e d = not-opened _ r e d
+accepted-opens g (load q x o b) s r e d = not-opened 0 r e d
+accepted-opens g (store q x o b) s r e d = not-opened 0 r e d
+accepted-opens g (look q x o) s r e d = not-opened 0 r e d
+accepted-opens g (size q x) s r e d = not-opened _ r e d
+accepted-opens g (release q x) s r e d = not-opened 0 r e d
+accepted-opens g recover s r e d = not-opened 0 r e d
+
+pub only-open : (g : Geometry) (c : Call) (s : State) (r e : ℕ) → outcome g c s .answer ≡ opening r e → c ≡ «open»
+only-open g c s r e d = go (ℕ-discrete (refusal g (s .image) (s .index) c) 0)
+  where
+    go : Dec (refusal g (s .image) (s .index) c ≡ 0) → c ≡ «open»
+    go (yes z) = accepted-opens g c s r e (sym (ap (λ o. o .answer) (outcome-done g c s z)) ∙ d)
+    go (no ne) =
+        let k = refusal g (s .image) (s .index) c in
+        let z : Refused k ≡ opening r e = sym (ap (λ o. o .answer) (refused g c s k refl ne)) ∙ d in
+        let w : _≡_ {A = ℕ} 0 1 = cc in
+        absurd (omega arith)

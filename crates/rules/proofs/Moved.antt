@@ -17,13 +17,13 @@ use Rattle.laws.proofs.Lists.{join-ext}
 use Rattle.paper.specs.declared.Geometry.{Geometry}
 use Rattle.paper.specs.declared.Version.{Version}
 use Rattle.paper.specs.Geometry.{headerBytes, fixedRegions, anonymous, reclaimed, blockBytes, Allowed, noRegion, mostBookPages, need, sizeAt, frontBytes, dataAt}
-use Rattle.paper.specs.Image.{holds, taken, counter, owner, place, sizeOf, pagesOf, editionOf, isOpen, needOf, blockOf, writtenHeader, entryRow, sizeRow, written}
+use Rattle.paper.specs.Image.{holds, versionOf, taken, counter, owner, place, sizeOf, pagesOf, editionOf, isOpen, needOf, blockOf, writtenHeader, entryRow, sizeRow, written}
 use Rattle.paper.specs.Calls.{versionNumber, laidSize, laid}
 use Rattle.paper.specs.Move.{movedPlace, movedOwner, movedSize, movedFront, movedData}
 use Rattle.paper.proofs.Arithmetic.{book-pages-bound, need-enough, need-zero}
 use Rattle.rules.specs.Facts.{Rules, Header, Formed, fronted}
 use Rattle.rules.proofs.Cells.{Codable}
-use Rattle.rules.proofs.Written.{length-written, written-joined, stamp-written, taken-written, counter-written, owner-written, place-written, size-written, edition-written}
+use Rattle.rules.proofs.Written.{length-written, written-joined, version-written, stamp-written, taken-written, counter-written, owner-written, place-written, size-written, edition-written}
 use Rattle.rules.proofs.Facts.{open-below, none-released, is-open, is-past, need-open, need-same, needs-open, open-same}
 use Rattle.rules.proofs.Counting.{block-at}
 use Rattle.rules.proofs.Laid.{laidSize-fixed, laid-codable, laid-taken, laid-counter, laid-size, laid-open, laid-need, laid-rules, version-small, version-either}
@@ -151,9 +151,13 @@ module _ (g : Geometry) (A : Allowed g) (v : Version) (n : ℕ) (most : need g n
   unfolding movedFront
   size-is r h = size-written g (versionNumber v) k fixedRegions (movedOwner g k) (movedPlace k) (movedSize n) r h (version-small v) (moved-codable r)
 
-  edition-is : (r : ℕ) → r < g .entries → editionOf g u r ≡ 0
+  pub moved-version : versionOf g (movedFront g v n) ≡ versionNumber v
   unfolding movedFront
-  edition-is r h = edition-written g (versionNumber v) k fixedRegions (movedOwner g k) (movedPlace k) (movedSize n) r h (version-small v)
+  moved-version = version-written g (versionNumber v) k fixedRegions (movedOwner g k) (movedPlace k) (movedSize n) (version-small v)
+
+  pub moved-edition : (r : ℕ) → r < g .entries → editionOf g (movedFront g v n) r ≡ 0
+  unfolding movedFront
+  moved-edition r h = edition-written g (versionNumber v) k fixedRegions (movedOwner g k) (movedPlace k) (movedSize n) r h (version-small v)
 
   zero-below : anonymous < g .entries
   zero-below = omega (arith, A .entries-least)
@@ -190,7 +194,7 @@ module _ (g : Geometry) (A : Allowed g) (v : Version) (n : ℕ) (most : need g n
   moved-rules = record {
     low = λ r h. moved-opens r ∙ T .low r h;
     high = λ r lo hi. moved-opens r ∙ T .high r (omega (arith, moved-counter, laid-counter g A v)) hi;
-    editions = none-released g (u) (omega (arith, A .entries-least)) edition-is;
+    editions = none-released g (u) (omega (arith, A .entries-least)) moved-edition;
     fits = λ r e. fit r e (ℕ-discrete r anonymous);
     whole = rw (moved-sizes reclaimed (omega arith) (omega (arith, A .entries-least))) (T .whole);
     total =

@@ -1,19 +1,20 @@
 -- A front written from what stands in it reads back as that; and its parts, as they are written one after the other.
-use Prim.Native.Nat.{ℕ, _+_, _-_, _*_, _^_, _≤_, _<_}
+use Prim.Native.Nat.{ℕ, _+_, _-_, _*_, _/_, _^_, _≤_, _<_}
 use mathlib.Core.Bool.{Bool, true, false, cond}
 use mathlib.Core.Logic.{_⊎_, inl, inr}
-use mathlib.Core.Path.{_≡_, refl, sym, _∙_}
+use mathlib.Core.Path.{_≡_, refl, sym, _∙_, ap}
 use mathlib.Core.List.{List, [], _++_, append-assoc, append-nil}
 use native.Mathlib.Omega.{arith}
+use native.Mathlib.Nat.{div-eq-of-lt}
 use lib.Dec.{eqb}
 use lib.ListN.{drop, length, length-append}
 use lib.Seq.{drop-drop, drop-append-add, drop-at}
 use Rattle.laws.specs.Folds.{joinBelow}
 use Rattle.laws.specs.Bytes.{value, num, le, splice, put}
 use Rattle.laws.proofs.Lists.{length-rows, drop-rows, splice-start, splice-then}
-use Rattle.laws.proofs.Bytes.{length-le, value-le}
+use Rattle.laws.proofs.Bytes.{length-le, value-le, le-join}
 use Rattle.paper.specs.declared.Geometry.{Geometry}
-use Rattle.paper.specs.Geometry.{headerBytes, markerAt, versionAt, takenAt, counterAt, blankAt, version2, version3, sizeBytes, halfBytes, entryAt, sizeAt, editionAt, frontBytes}
+use Rattle.paper.specs.Geometry.{headerBytes, markerAt, versionAt, takenAt, counterAt, blankAt, version2, version3, sizeBytes, entryAt, sizeAt, editionAt, frontBytes}
 use Rattle.paper.specs.Image.{Size, coded, sizeWidth, versionOf, stamped, taken, counter, owner, place, sizeOf, editionOf, writtenHeader, entryRow, sizeRow, written}
 use Rattle.rules.specs.Facts.{fronted}
 use Rattle.rules.proofs.Cells.{Codable, version3-width, width-most, decoded-coded, coded-fits}
@@ -52,13 +53,18 @@ pub entry-put : (own pos : ℕ → ℕ) (b at : ℕ) (xs : List ℕ) → at ≤ 
 unfolding entryRow
 entry-put own pos b at xs h = splice-then at (at + 2) (le 2 (own b)) (le 2 (pos b)) xs (rw length-le) h
 
--- the size in as many bytes as the version keeps for it, and edition 0 in the others
-pub size-put : (v : ℕ) (size : ℕ → Size) (r at : ℕ) (xs : List ℕ) → at ≤ length xs
-    → put (sizeBytes - sizeWidth v) (at + sizeWidth v) 0 (put (sizeWidth v) at (coded (sizeWidth v) (size r)) xs) ≡ splice at (sizeRow v size r) xs
+-- a size with edition 0, in both halves at once
+size-whole : (v : ℕ) (size : ℕ → Size) (r : ℕ) → Codable (size r) → le 8 (coded (sizeWidth v) (size r)) ≡ sizeRow v size r
 unfolding sizeRow
-size-put v size r at xs h =
+size-whole v size r k =
     let w = sizeWidth v in
-    splice-then at (at + w) (le w (coded w (size r))) (le (sizeBytes - w) 0) xs (rw length-le) h
+    let x = coded w (size r) in
+    let all : w + (sizeBytes - w) ≡ 8 = omega (arith, width-most v) in
+    let high : x / 256 ^ w ≡ 0 = div-eq-of-lt (coded-fits v (size r) k) in
+    rw high at (rw all at (le-join w (sizeBytes - w) x))
+
+pub size-put : (v : ℕ) (size : ℕ → Size) (r at : ℕ) (xs : List ℕ) → Codable (size r) → put 8 at (coded (sizeWidth v) (size r)) xs ≡ splice at (sizeRow v size r) xs
+size-put v size r at xs k = ap (λ (ys : List ℕ). splice at ys xs) (size-whole v size r k)
 
 module _ (g : Geometry) (v n c : ℕ) (own pos : ℕ → ℕ) (size : ℕ → Size) where
   abbrev front : List ℕ
@@ -148,7 +154,7 @@ module _ (g : Geometry) (v n c : ℕ) (own pos : ℕ → ℕ) (size : ℕ → Si
         let d = drop-rows 8 (sizeRow v size) (length-size v size) (g .entries) r [] h in (
           d .0,
           rw e (after-header (length entries + r * 8) ∙ drop-append-add entries sizes (r * 8) ∙ (rw append-nil at (d .1)))
-          ∙ append-assoc (le w (coded w (size r))) (le (sizeBytes - w) 0) (d .0),
+              ∙ append-assoc (le w (coded w (size r))) (le (sizeBytes - w) 0) (d .0),
         )
 
     module _ (small : v < 256 ^ 4) where

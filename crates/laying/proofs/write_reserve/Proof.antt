@@ -27,7 +27,7 @@ returns c =
     let w = c .before .before in
     let b = at-blank w in
     let a = at-start b .args in
-    w .write-tables .ensures ∙ ap (fronted (a .g) (movedFront (a .g) (a .pages .0))) (b .blank-unused .ensures)
+    w .write-tables .ensures ∙ ap (fronted (a .g) (movedFront (a .g) (a .version) (a .pages .0))) (b .blank-unused .ensures)
 
 pub write-reserve-spec : {M : Type 1} → statement M
 write-reserve-spec =

@@ -4,6 +4,7 @@ use Rattle.laws.specs.Folds.{joinBelow}
 use Rattle.laws.specs.Bytes.{splice}
 use Rattle.paper.specs.Geometry.{headerBytes, sizeAt}
 use Rattle.paper.specs.Image.{entryRow, sizeRow}
+use Rattle.paper.specs.Calls.{versionNumber}
 use Rattle.paper.specs.Move.{movedOwner, movedPlace, movedSize}
 use Rattle.rules.proofs.Moved.{moved-joined}
 use native.Mathlib.Omega.{arith}
@@ -46,11 +47,11 @@ returns c =
     let h = at-header b in
     let a = at-start h .args in
     let n = h .before .before .need in
-    let sizes = joinBelow (a .g .entries) (sizeRow (movedSize (a .pages .0))) in
+    let sizes = joinBelow (a .g .entries) (sizeRow (versionNumber (a .version)) (movedSize (a .pages .0))) in
     let entries = joinBelow (a .g .blocks) (entryRow (movedOwner (a .g) (n .result)) (movedPlace (n .result))) in
     r .write-regions .ensures
     ∙ ap (splice (sizeAt (a .g) 0) sizes) (b .write-blocks .ensures ∙ ap (splice headerBytes entries) (h .write-header .ensures))
-    ∙ moved-joined (a .g) (a .pages .0) (n .result) (a .image .now) (n .ensures)
+    ∙ moved-joined (a .g) (a .version) (a .pages .0) (n .result) (a .image .now) (n .ensures)
 
 pub write-tables-spec : {M : Type 1} → statement M
 write-tables-spec =

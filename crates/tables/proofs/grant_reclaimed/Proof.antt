@@ -1,5 +1,5 @@
 -- `tables::grant_reclaimed` meets its contract.
-use Prim.Native.Nat.{_+_, _-_, _*_}
+use Prim.Native.Nat.{_+_, _-_, _*_, _≤_}
 use mathlib.Core.Path.{_∙_}
 use Rattle.paper.specs.Geometry.{reclaimed}
 use Rattle.paper.specs.Image.{front, setEntry, setPages}
@@ -21,6 +21,13 @@ need-known c = c .before .before .before .before
 abbrev pages-set : tie.After-give → tie.After-set-pages
 pages-set c = c .before .before .before .before
 
+-- the pages that region 1 keeps are few enough
+few : (c : tie.After-need2) → (c .need2 .result - 1) * start (need-known c) .args .g .pages ≤ 8388608
+few c =
+    let s = start (need-known c) in
+    let h = s .pre .1 .0 .again (s .pre .1 .1) in
+    pages-bound (s .args .g) (s .pre .0 .allowed) (c .need2 .result - 1) (omega (arith, c .need2 .ensures, h .fits))
+
 need-requires : tie.Need-need-requires
 need-requires c κs = search needs
 
@@ -36,13 +43,13 @@ sub-k : tie.Need-sub-k
 sub-k c = search needs
 
 mul-n : tie.Need-mul-n
-mul-n c =
-    let s = start (need-known c) in
-    let h = s .pre .1 .0 .again (s .pre .1 .1) in
-    record { fits = omega (arith, pages-bound (s .args .g) (s .pre .0 .allowed) (c .need2 .result - 1) (omega (arith, c .need2 .ensures, h .fits))) }
+mul-n c = record { fits = omega (arith, few c) }
 
 set-pages-requires : tie.Need-set-pages-requires
-set-pages-requires c κs = search needs
+set-pages-requires c κs =
+    let two = c .before in
+    let s = start (need-known two) in
+    (s .pre .0, (omega (arith, s .pre .0 .allowed .entries-least), omega (arith, few two)))
 
 give-requires : tie.Need-give-requires
 give-requires c κs =
