@@ -10,6 +10,7 @@ ghost use Rattle.paper.specs.Calls.{«open», grow, release, grownFront, grown}
 ghost use Rattle.paper.specs.Index.{indexOf};
 ghost use Rattle.paper.specs.Outcomes.{gives, lent, outcome};
 ghost use Rattle.rules.specs.Facts.{Formed, Readable, fronted, Indexed};
+ghost use Rattle.keeping.specs.Kept.{zeroedNew};
 ghost use Rattle.books.specs.Room.{hasRoom, Growing};
 use paper::Answer;
 use paper::Geometry;
@@ -77,7 +78,7 @@ pub fn release(g: Geometry, image: &mut [u8], index: &mut [u8], region: Region) 
     Answer::Done(0)
 }
 
-// The blocks for so many pages more, and the page count.
+// The blocks for so many pages more, and last the page count: until it is written the needs sum to less than N, and recovery refuses.
 fn grow_tables(g: Geometry, image: &mut [u8], index: &[u8], region: Region, pages: Pages)
     requires { ⌜ Growing g (now image) (now index) (region .0) (pages .0) ⌝ }
     ensures { λ _. ⌜ now (image .exit) ≡ fronted g (grownFront g (region .0) (pages .0) (front g (now (image .entry)))) (now (image .entry)) ⌝ }
@@ -85,7 +86,7 @@ fn grow_tables(g: Geometry, image: &mut [u8], index: &[u8], region: Region, page
     let old = image::pages(g, image, region);
     let new = Pages(old.0 + pages.0);
     let more = g.need(new) - g.need(old);
-    tables::grant_blocks(g, image, index, region, more);
+    tables::grant_blocks(g, image, index, region, more as usize);
     image::set_pages(g, image, region, new);
 }
 
@@ -97,17 +98,33 @@ fn first_new(g: Geometry, old: Pages) -> Offset
     Offset(old.0 * g.page as u64)
 }
 
-// So many pages more: the tables, the index, and zeros in exactly the new pages.
+// Zeros in exactly the new pages, before any table tells of them: in a block that the book holds already, and in those that it will be granted.
+fn zero_new(g: Geometry, image: &mut [u8], index: &[u8], region: Region, old: Pages, pages: Pages)
+    requires { ⌜ Growing g (now image) (now index) (region .0) (pages .0) ⌝ }
+    requires { ⌜ old .0 ≡ pagesOf g (front g (now image)) (region .0) ⌝ }
+    ensures { λ _. ⌜ now (image .exit) ≡ zeroedNew g (region .0) (pages .0) (front g (now (image .entry))) (now (image .entry)) ⌝ }
+{
+    let s = tables::take_stock(g, image, region);
+    let n = pages.0 * g.page as u64;
+    let mut at = g.spot(first_new(g, old));
+    let mut left = n as usize;
+    while 0 < left {
+        let b = tables::block_after(g, index, region, s, at.position);
+        left -= stretches::zero_at(g, image, b, at, left);
+        at = stretches::next_block(at);
+    }
+}
+
+// So many pages more: zeros in exactly the new pages, then the tables, then the index. Cut short before the tables, the old book stands; in
+// them, recovery refuses; and once the page count is written no page shows another book's bytes.
 fn extend(g: Geometry, image: &mut [u8], index: &mut [u8], region: Region, old: Pages, pages: Pages)
     requires { ⌜ Growing g (now image) (now index) (region .0) (pages .0) ⌝ }
     requires { ⌜ (old .0 ≡ pagesOf g (front g (now image)) (region .0)) × (0 < pages .0) ⌝ }
     ensures { λ _. ⌜ (now (image .exit) ≡ grown g (region .0) (pages .0) (now (image .entry))) × (now (index .exit) ≡ indexOf g (front g (grown g (region .0) (pages .0) (now (image .entry))))) ⌝ }
 {
+    zero_new(g, image, index, region, old, pages);
     grow_tables(g, image, index, region, pages);
     index_anew(g, image, index);
-    let n = pages.0 * g.page as u64;
-    let spot = g.spot(first_new(g, old));
-    stretches::zero_in(g, image, index, region, spot, n as usize);
 }
 
 // Grow by so many pages: answers the old page count.

@@ -5,8 +5,8 @@ ghost use Prim.Native.Nat.{_+_, _^_, _≤_, _<_};
 ghost use lib.ListN.{length};
 ghost use Rattle.laws.specs.Folds.{joinBelow};
 ghost use Rattle.laws.specs.Bytes.{splice, put};
-ghost use Rattle.paper.specs.Geometry.{headerBytes, version, fixedRegions, Allowed, need, sizeAt};
-ghost use Rattle.paper.specs.Image.{blanked, coded, writtenHeader, entryRow, sizeRow};
+ghost use Rattle.paper.specs.Geometry.{headerBytes, version, fixedRegions, Allowed, noRegion, need, sizeAt};
+ghost use Rattle.paper.specs.Image.{front, blanked, coded, setPages, writtenHeader, entryRow, sizeRow};
 ghost use Rattle.paper.specs.Index.{emptyIndex};
 ghost use Rattle.paper.specs.Calls.{lay, laidSize};
 ghost use Rattle.paper.specs.Move.{movedOwner, movedPlace, movedSize, movedFront};
@@ -108,14 +108,15 @@ fn write_regions(g: Geometry, image: &mut [u8], pages: Pages)
     }
 }
 
+// The header last: before it there is no image, whatever stands in the tables.
 fn write_tables(g: Geometry, image: &mut [u8], pages: Pages)
     requires { ⌜ Readable g (now image) × (need g (pages .0) ≤ g .blocks) ⌝ }
     ensures { λ _. ⌜ now (image .exit) ≡ fronted g (movedFront g (pages .0)) (now (image .entry)) ⌝ }
 {
     let taken = g.need(pages) as u16;
-    write_header(image, taken);
     write_blocks(g, image, taken);
     write_regions(g, image, pages);
+    write_header(image, taken);
 }
 
 // ---- the rest of the reserve
@@ -128,11 +129,22 @@ fn blank_unused(g: Geometry, image: &mut [u8])
     numbers::zero_part(image, g.front_bytes(), g.block_bytes());
 }
 
-// The old anonymous book has so many pages, in the first data blocks. The zeros come first: cut short after them, the image is still one to lay.
+// Region E-1 as open, which it never is: from here on recovery refuses, whatever an older memory has in this place, until the regions' entries
+// are written, of which this is the last.
+fn spoil(g: Geometry, image: &mut [u8])
+    requires { ⌜ Readable g (now image) ⌝ }
+    ensures { λ _. ⌜ now (image .exit) ≡ fronted g (setPages g (noRegion g) 0 (front g (now (image .entry)))) (now (image .entry)) ⌝ }
+{
+    image::set_pages(g, image, g.no_region(), Pages(0));
+}
+
+// The old anonymous book has so many pages, in the first data blocks. The header comes last: cut short before it, recovery refuses the image,
+// and where it is zero lay takes the image again.
 pub fn write_reserve(g: Geometry, image: &mut [u8], pages: Pages)
     requires { ⌜ Readable g (now image) × (need g (pages .0) ≤ g .blocks) ⌝ }
     ensures { λ _. ⌜ now (image .exit) ≡ fronted g (movedFront g (pages .0)) (blanked g (now (image .entry))) ⌝ }
 {
+    spoil(g, image);
     blank_unused(g, image);
     write_tables(g, image, pages);
 }

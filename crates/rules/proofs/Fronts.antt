@@ -85,7 +85,7 @@ pub still-readable : (g : Geometry) (image later : List ℕ) → Readable g imag
 still-readable g image later R long = record { allowed = R .allowed; long = rw long (R .long) }
 
 module _ (g : Geometry) (image later t : List ℕ) (R : Readable g image) (long : length later ≡ length image) (e : later ≡ fronted g t image) where
-  full : length t ≡ frontBytes g
+  pub full : length t ≡ frontBytes g
   full = omega (arith, front-fits g image R, simp (length-append, length-drop) at (sym long ∙ ap length e))
 
   pub front-is : front g later ≡ t

@@ -66,13 +66,15 @@ place-small k b h = go (decLt (b + 1) k)
     go (yes l) = rw (place-next k b l) (omega arith)
     go (no l) = rw (place-last k b (omega arith)) (omega arith)
 
--- header, then blocks, then regions, with k for the need
-pub moved-joined : (g : Geometry) (n k : ℕ) (xs : List ℕ) → k ≡ need g n
-    → splice (sizeAt g 0) (joinBelow (g .entries) (sizeRow (movedSize n)))
-    (splice headerBytes (joinBelow (g .blocks) (entryRow (movedOwner g k) (movedPlace k))) (splice 0 (writtenHeader version k fixedRegions) xs))
+-- blocks, then regions, then the header, with k for the need
+pub moved-joined : (g : Geometry) (n k : ℕ) (xs : List ℕ) → k ≡ need g n → frontBytes g ≤ length xs
+    → splice 0 (writtenHeader version k fixedRegions)
+    (splice (sizeAt g 0) (joinBelow (g .entries) (sizeRow (movedSize n)))
+    (splice headerBytes (joinBelow (g .blocks) (entryRow (movedOwner g k) (movedPlace k))) xs))
     ≡ fronted g (movedFront g n) xs
 unfolding movedFront
-moved-joined g n k xs e = rw e (written-joined g version (need g n) fixedRegions (movedOwner g (need g n)) (movedPlace (need g n)) (movedSize n) xs)
+moved-joined g n k xs e fits =
+    rw e (written-joined g version (need g n) fixedRegions (movedOwner g (need g n)) (movedPlace (need g n)) (movedSize n) xs fits)
 
 -- no pages need no blocks, and no others
 pub none-needed : (g : Geometry) → Allowed g → (n : ℕ) → need g n ≡ 0 → n ≡ 0

@@ -18,7 +18,7 @@ use Rattle.paper.specs.declared.Geometry.{Geometry}
 use Rattle.paper.specs.Geometry.{blockBytes, Allowed, frontBytes}
 use Rattle.paper.specs.Image.{front, rest, unused, dataOf, blanked}
 use Rattle.paper.specs.Refusals.{unusedBlank}
-use Rattle.rules.proofs.Cells.{length-front}
+use Rattle.rules.proofs.Cells.{length-front, length-joined}
 
 module _ (g : Geometry) (A : Allowed g) where
   abbrev fb : ℕ
@@ -102,6 +102,9 @@ module _ (g : Geometry) (A : Allowed g) where
     pub length-blanked : length (blanked g image) ≡ length image
     length-blanked = length-of (front g image) zeros (dataOf g image) full-front wide-zeros ∙ length-data
 
+    rest-blanked : rest g (blanked g image) ≡ zeros ++ dataOf g image
+    rest-blanked = drop-at (front g image) (zeros ++ dataOf g image) fb full-front
+
     -- the test, as it is made of the part that is lent
     pub blank-part : (from to : ℕ) → from ≡ frontBytes g → to ≡ blockBytes g
         → allBelow (length (take (to - from) (drop from image))) (λ k. eqb (getD (take (to - from) (drop from image)) k 0) 0) ≡ unusedBlank g image
@@ -129,3 +132,10 @@ module _ (g : Geometry) (A : Allowed g) where
         passes e =
             below-all (bb - fb) test (λ k l.
             eq-eqb _ _ (sym (unused-at image k l) ∙ ap (λ xs. getD xs k 0) e ∙ getD-replicate (bb - fb) k 0 0 l))
+
+  -- ---- what stands in the front has no part in the blanked rest
+  pub blanked-rest : (t image : List ℕ) → length t ≡ frontBytes g → blockBytes g ≤ length image
+      → rest g (blanked g (t ++ rest g image)) ≡ rest g (blanked g image)
+  blanked-rest t image full long =
+      let l : length (t ++ rest g image) ≡ length image = length-joined g t image full (omega (arith, A .reserve)) in
+      rest-blanked (t ++ rest g image) (rw l long) ∙ rw (dataOf-joined image long t full) (sym (rest-blanked image long))

@@ -1,13 +1,13 @@
 -- A front written from what stands in it reads back as that; and its parts, as they are written one after the other.
 use Prim.Native.Nat.{ℕ, _+_, _*_, _≤_, _<_}
-use mathlib.Core.Path.{_≡_, refl, sym, _∙_}
+use mathlib.Core.Path.{_≡_, refl, sym, _∙_, ap}
 use mathlib.Core.List.{List, [], _++_, append-assoc, append-nil}
 use native.Mathlib.Omega.{arith}
 use lib.ListN.{drop, length, length-append}
 use lib.Seq.{drop-drop, drop-append-add, drop-at}
 use Rattle.laws.specs.Folds.{joinBelow}
 use Rattle.laws.specs.Bytes.{value, num, le, splice, put}
-use Rattle.laws.proofs.Lists.{length-rows, drop-rows, splice-start, splice-then}
+use Rattle.laws.proofs.Lists.{length-rows, drop-rows, length-splice, splice-start, splice-then, splice-swap}
 use Rattle.laws.proofs.Bytes.{length-le, value-le}
 use Rattle.paper.specs.declared.Geometry.{Geometry}
 use Rattle.paper.specs.Geometry.{headerBytes, markerAt, versionAt, takenAt, counterAt, blankAt, version, entryAt, sizeAt, frontBytes}
@@ -66,18 +66,18 @@ module _ (g : Geometry) (v n c : ℕ) (own pos : ℕ → ℕ) (size : ℕ → Si
   length-entries : length entries ≡ g .blocks * 4
   length-entries = length-rows 4 (entryRow own pos) (length-entry own pos) (g .blocks)
 
+  length-sizes : length sizes ≡ g .entries * 8
+  length-sizes = length-rows 8 (sizeRow size) (length-size size) (g .entries)
+
   pub length-written : length (written g v n c own pos size) ≡ frontBytes g
   unfolding written
   length-written =
-      simp (length-append, length-header v n c, length-entries, length-rows 8 (sizeRow size) (length-size size) (g .entries)) (omega arith)
+      simp (length-append, length-header v n c, length-entries, length-sizes) (omega arith)
 
   -- ---- header, then blocks, then regions
-  pub written-joined : (xs : List ℕ)
-      → splice (sizeAt g 0) (joinBelow (g .entries) (sizeRow size))
-      (splice headerBytes (joinBelow (g .blocks) (entryRow own pos)) (splice 0 (writtenHeader v n c) xs))
-      ≡ fronted g (written g v n c own pos size) xs
+  in-order : (xs : List ℕ) → splice (sizeAt g 0) sizes (splice headerBytes entries (splice 0 (writtenHeader v n c) xs)) ≡ fronted g front xs
   unfolding written
-  written-joined xs =
+  in-order xs =
       let h = writtenHeader v n c in
       let m : sizeAt g 0 ≡ 0 + length (h ++ entries) = rw (length-append, length-header v n c, length-entries) (omega arith) in
       rw (
@@ -86,6 +86,19 @@ module _ (g : Geometry) (v n c : ℕ) (own pos : ℕ → ℕ) (size : ℕ → Si
         append-assoc h entries sizes,
       )
       (splice-start (frontBytes g) front xs length-written)
+
+  -- or the header last
+  pub written-joined : (xs : List ℕ) → frontBytes g ≤ length xs
+      → splice 0 (writtenHeader v n c)
+      (splice (sizeAt g 0) (joinBelow (g .entries) (sizeRow size)) (splice headerBytes (joinBelow (g .blocks) (entryRow own pos)) xs))
+      ≡ fronted g (written g v n c own pos size) xs
+  written-joined xs fits =
+      let h = writtenHeader v n c in
+      let k : headerBytes + length entries ≤ length xs = omega (arith, length-entries) in
+      let l : sizeAt g 0 + length sizes ≤ length (splice headerBytes entries xs) = rw (length-splice headerBytes entries xs k) (omega (arith, length-sizes)) in
+      splice-swap 0 (sizeAt g 0) h sizes (splice headerBytes entries xs) (rw length-header (omega arith)) l
+      ∙ ap (splice (sizeAt g 0) sizes) (splice-swap 0 headerBytes h entries xs (rw length-header (omega arith)) k)
+      ∙ in-order xs
 
   -- ---- the header
   pub stamp-written : v ≡ version → stamp g (written g v n c own pos size) ≡ v

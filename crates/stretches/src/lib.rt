@@ -1,15 +1,17 @@
 // The stretches of a book that n bytes from an offset on touch: found in the index, checked, and copied. The offset comes as a spot, turned
 // once; a walk then goes on from block to block, divides nothing, and ends when no byte is left.
 ghost use mathlib.Core.Path.{_≡_};
-ghost use Prim.Native.Nat.{_+_, _^_, _<_};
+ghost use Prim.Native.Nat.{_+_, _^_, _≤_, _<_};
 ghost use lib.ListN.{length, replicate};
-ghost use Rattle.paper.specs.Geometry.{Allowed, blockBytes};
+ghost use Rattle.laws.specs.Bytes.{splice};
+ghost use Rattle.paper.specs.Geometry.{Allowed, blockBytes, dataAt};
 ghost use Rattle.paper.specs.Image.{front, needOf};
 ghost use Rattle.paper.specs.Index.{startIn, blockIn};
 ghost use Rattle.paper.specs.Calls.{loaded, stored};
 ghost use Rattle.paper.specs.Refusals.{rightAt, touchedRight};
 ghost use Rattle.rules.specs.Facts.{Entered, Reads, Indexed};
 ghost use Rattle.stretches.specs.Stretch.{blockFrom, offsetOf, inBlock, IsStretch};
+use paper::Block;
 use paper::Geometry;
 use paper::Position;
 use paper::Region;
@@ -32,7 +34,7 @@ fn in_block(g: Geometry, spot: Spot, left: usize) -> usize
 }
 
 // Where the next block starts. A book has fewer than 2^40 bytes, so that nothing here wraps.
-fn next_block(spot: Spot) -> Spot
+pub fn next_block(spot: Spot) -> Spot
     requires { ⌜ spot .position .0 < 2 ^ 40 ⌝ }
     ensures { λ s. ⌜ (s .position .0 ≡ spot .position .0 + 1) × (s .within ≡ 0) ⌝ }
 {
@@ -166,4 +168,15 @@ pub fn zero_in(g: Geometry, image: &mut [u8], index: &[u8], r: Region, spot: Spo
         left -= s.bytes;
         at = next_block(at);
     }
+}
+
+// Zeros into block b, whether a table tells of it or not: of so many bytes left those that fall into it from the spot on. Answers how many.
+pub fn zero_at(g: Geometry, image: &mut [u8], b: Block, spot: Spot, left: usize) -> usize
+    requires { ⌜ Allowed g × (spot .within < blockBytes g) × (dataAt g (b .0) + blockBytes g ≤ length (now image)) ⌝ }
+    ensures { λ k. ⌜ (k ≡ inBlock g spot left) × (now (image .exit) ≡ splice (dataAt g (b .0) + spot .within) (replicate (inBlock g spot left) 0) (now (image .entry))) ⌝ }
+{
+    let from = g.data_at(b) + spot.within;
+    let n = in_block(g, spot, left);
+    numbers::zero_part(image, from, from + n);
+    n
 }

@@ -1,24 +1,49 @@
--- What one grant of a block asks of the tables and of the lent index.
-use Prim.Native.Nat.{ℕ, _+_, _-_, _<_, _≤_}
-use mathlib.Core.Path.{_≡_}
+-- Which blocks a growth takes, as the tables and the lent index tell before it; what each grant writes, and what it asks.
+use Prim.Native.Nat.{ℕ, _+_, _-_, _*_, _≤_, _<_}
+use mathlib.Core.Bool.{cond}
 use mathlib.Core.List.{List}
-use lib.ListN.{length}
+use lib.Dec.{ltb}
 use Rattle.paper.specs.declared.Geometry.{Geometry}
-use Rattle.paper.specs.Geometry.{reclaimed, indexBytes}
-use Rattle.paper.specs.Image.{taken, needOf, blockOf}
+use Rattle.paper.specs.Geometry.{reclaimed}
+use Rattle.paper.specs.Image.{taken, needOf, setTaken, setEntry, setPages}
 use Rattle.paper.specs.Index.{startIn, blockIn}
+use Rattle.tables.specs.declared.Stock.{Stock}
 
--- the index still gives region 1's highest block
-pub record Highest (g : Geometry) (t index : List ℕ) : Type 0 where
-  pub slot : startIn g index reclaimed + (needOf g t reclaimed - 1) < g .blocks
-  pub block : blockIn g index reclaimed (needOf g t reclaimed - 1) ≡ blockOf g t reclaimed (needOf g t reclaimed - 1)
-  pub inside : blockOf g t reclaimed (needOf g t reclaimed - 1) < g .blocks
-  pub fits : needOf g t reclaimed ≤ g .blocks
+-- what a growth of region r starts from
+abbrev pub stockOf : Geometry → List ℕ → ℕ → Stock
+stockOf g t r = record { held = needOf g t r; spare = needOf g t reclaimed; taken = taken g t }
 
--- region r may have one block more, at its next position
-pub record Grantable (g : Geometry) (t index : List ℕ) (r : ℕ) : Type 0 where
+-- the block that the grant after j others takes: region 1's, the highest position first, then from N up
+abbrev pub nextBlock : Geometry → List ℕ → Stock → ℕ → ℕ
+nextBlock g index s j = cond (ltb j (s .spare)) (blockIn g index reclaimed (s .spare - 1 - j)) (s .taken + (j - s .spare))
+
+-- the block at position p of region r when it has grown
+abbrev pub blockAfter : Geometry → List ℕ → ℕ → Stock → ℕ → ℕ
+blockAfter g index r s p = cond (ltb p (s .held)) (blockIn g index r p) (nextBlock g index s (p - s .held))
+
+-- block b leaves region 1, or is counted in N
+abbrev pub drawn : Geometry → Stock → ℕ → ℕ → List ℕ → List ℕ
+drawn g s j b t = cond (ltb j (s .spare)) (setPages g reclaimed ((s .spare - 1 - j) * g .pages) t) (setTaken g (b + 1) t)
+
+-- and stands at region r's next position. The book's page count stays
+abbrev pub placed : Geometry → List ℕ → ℕ → Stock → ℕ → List ℕ → List ℕ
+placed g index r s j t = setEntry g (nextBlock g index s j) r (s .held + j) (drawn g s j (nextBlock g index s j) t)
+
+-- that block can be found
+pub record Found (g : Geometry) (index : List ℕ) (s : Stock) (j : ℕ) : Type 0 where
+  pub spare : j < s .spare → startIn g index reclaimed + (s .spare - 1 - j) < g .blocks
+  pub new : s .spare ≤ j → s .taken + (j - s .spare) < g .blocks
+
+-- and so can the one at position p
+pub record FoundAt (g : Geometry) (index : List ℕ) (r : ℕ) (s : Stock) (p : ℕ) : Type 0 where
   pub inside : r < g .entries
-  pub next : needOf g t r < g .blocks
-  pub long : length index ≡ indexBytes g
-  pub new : needOf g t reclaimed ≡ 0 → taken g t < g .blocks
-  pub again : 0 < needOf g t reclaimed → Highest g t index
+  pub own : p < s .held → startIn g index r + p < g .blocks
+  pub later : s .held ≤ p → Found g index s (p - s .held)
+
+-- the grant after j others is possible
+pub record Grantable (g : Geometry) (index : List ℕ) (r : ℕ) (s : Stock) (j : ℕ) : Type 0 where
+  pub inside : r < g .entries
+  pub next : s .held + j < g .blocks
+  pub fits : s .spare ≤ g .blocks
+  pub block : nextBlock g index s j < g .blocks
+  pub found : Found g index s j

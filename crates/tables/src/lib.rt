@@ -1,11 +1,11 @@
 // The tables changed block by block: a block given to a book, a book's blocks given back, a region opened.
 ghost use mathlib.Core.Path.{_≡_};
-ghost use Prim.Native.Nat.{ℕ, _+_, _-_, _*_, _<_};
+ghost use Prim.Native.Nat.{ℕ, _+_, _≤_, _<_};
 ghost use Rattle.laws.specs.Folds.{steps};
-ghost use Rattle.paper.specs.Image.{front, taken, owner, place, needOf, blockOf, setEntry, setPages};
+ghost use Rattle.paper.specs.Image.{front, taken, owner, place, needOf};
 ghost use Rattle.paper.specs.Geometry.{reclaimed};
-ghost use Rattle.paper.specs.Calls.{granted, grantedNew, lowestNotOpen, nextRegion, opened, released, moved, reclaiming, raised};
-ghost use Rattle.tables.specs.Grant.{Highest, Grantable};
+ghost use Rattle.paper.specs.Calls.{lowestNotOpen, nextRegion, opened, released, reclaiming, raised};
+ghost use Rattle.tables.specs.Grant.{stockOf, nextBlock, blockAfter, drawn, placed, Found, FoundAt, Grantable};
 ghost use Rattle.tables.specs.Steps.{Releasable};
 ghost use Rattle.rules.specs.Facts.{Readable, fronted, Indexed};
 use paper::Block;
@@ -14,85 +14,84 @@ use paper::Pages;
 use paper::Position;
 use paper::Region;
 
-// Block b at the region's next position, so that the region's pages fill its blocks.
-fn give(g: Geometry, image: &mut [u8], region: Region, b: Block, place: Position)
-    requires { ⌜ Readable g (now image) ⌝ }
-    requires { ⌜ (region .0 < g .entries) × (b .0 < g .blocks) × (place .0 < g .blocks) ⌝ }
-    ensures { λ _. ⌜ now (image .exit) ≡ fronted g (setPages g (region .0) ((place .0 + 1) * g .pages) (setEntry g (b .0) (region .0) (place .0) (front g (now (image .entry))))) (now (image .entry)) ⌝ }
-{
-    image::set_entry(g, image, b, region, place);
-    let n = (place.0 + 1) * g.pages;
-    image::set_pages(g, image, region, Pages(n as u64));
+// What a growth starts from: the blocks that the book holds, region 1's blocks, and N. While it is made the tables change and this does not.
+pub struct Stock {
+    pub held: usize,
+    pub spare: usize,
+    pub taken: u16,
 }
 
-// The block that is taken next: by N, and not by the image's length.
-fn next_block(g: Geometry, image: &[u8]) -> Block
+pub fn take_stock(g: Geometry, image: &[u8], region: Region) -> Stock
     requires { ⌜ Readable g (now image) ⌝ }
-    ensures { λ b. ⌜ b .0 ≡ taken g (front g (now (image .entry))) ⌝ }
+    ensures { λ s. ⌜ (s .held ≡ needOf g (front g (now (image .entry))) (region .0)) × (s .spare ≡ needOf g (front g (now (image .entry))) reclaimed) × (s .taken ≡ taken g (front g (now (image .entry)))) ⌝ }
 {
-    Block(image::taken(g, image))
-}
-
-// Block N, for the region.
-fn grant_new(g: Geometry, image: &mut [u8], region: Region)
-    requires { ⌜ Readable g (now image) ⌝ }
-    requires { ⌜ (region .0 < g .entries) × (needOf g (front g (now image)) (region .0) < g .blocks) × (taken g (front g (now image)) < g .blocks) ⌝ }
-    ensures { λ _. ⌜ now (image .exit) ≡ fronted g (grantedNew g (region .0) (front g (now (image .entry)))) (now (image .entry)) ⌝ }
-{
-    let place = Position(image::need(g, image, region) as usize);
-    let b = next_block(g, image);
-    image::set_taken(g, image, b.0 + 1);
-    give(g, image, region, b, place);
-}
-
-// The block that the lent index has at region 1's highest position.
-fn highest(g: Geometry, image: &[u8], index: &[u8]) -> Block
-    requires { ⌜ Readable g (now image) × Indexed g (now index) ⌝ }
-    requires { ⌜ 0 < needOf g (front g (now image)) reclaimed ⌝ }
-    requires { ⌜ Highest g (front g (now image)) (now index) ⌝ }
-    ensures { λ b. ⌜ b .0 ≡ blockOf g (front g (now (image .entry))) reclaimed (needOf g (front g (now (image .entry))) reclaimed - 1) ⌝ }
-{
-    let k = image::need(g, image, paper::RECLAIMED) as usize - 1;
-    let start = index::start_in(g, index, paper::RECLAIMED) as usize;
-    index::slot_in(g, index, start + k)
-}
-
-// Region 1's highest block, for the region.
-fn grant_reclaimed(g: Geometry, image: &mut [u8], index: &[u8], region: Region)
-    requires { ⌜ Readable g (now image) ⌝ }
-    requires { ⌜ Grantable g (front g (now image)) (now index) (region .0) ⌝ }
-    requires { ⌜ 0 < needOf g (front g (now image)) reclaimed ⌝ }
-    ensures { λ _. ⌜ now (image .exit) ≡ fronted g (moved g reclaimed (region .0) (front g (now (image .entry)))) (now (image .entry)) ⌝ }
-{
-    let place = Position(image::need(g, image, region) as usize);
-    let b = highest(g, image, index);
-    let k = image::need(g, image, paper::RECLAIMED) - 1;
-    let n = k * g.pages as u64;
-    image::set_pages(g, image, paper::RECLAIMED, Pages(n));
-    give(g, image, region, b, place);
-}
-
-// One block more for the region: blocks come first from region 1.
-fn grant(g: Geometry, image: &mut [u8], index: &[u8], region: Region)
-    requires { ⌜ Readable g (now image) ⌝ }
-    requires { ⌜ Grantable g (front g (now image)) (now index) (region .0) ⌝ }
-    ensures { λ _. ⌜ now (image .exit) ≡ fronted g (granted g (region .0) (front g (now (image .entry)))) (now (image .entry)) ⌝ }
-{
-    if image::need(g, image, paper::RECLAIMED) == 0 {
-        grant_new(g, image, region);
-    } else {
-        grant_reclaimed(g, image, index, region);
+    Stock {
+        held: image::need(g, image, region) as usize,
+        spare: image::need(g, image, paper::RECLAIMED) as usize,
+        taken: image::taken(g, image),
     }
 }
 
-// So many blocks more for the region.
-pub fn grant_blocks(g: Geometry, image: &mut [u8], index: &[u8], region: Region, count: u64)
-    requires { ⌜ Readable g (now image) ⌝ }
-    requires { ⌜ ((i : ℕ) → i < count → Grantable g (steps i (λ k u. granted g (region .0) u) (front g (now image))) (now index) (region .0)) ⌝ }
-    ensures { λ _. ⌜ now (image .exit) ≡ fronted g (steps count (λ k u. granted g (region .0) u) (front g (now (image .entry)))) (now (image .entry)) ⌝ }
+// The block that the grant after j others takes: region 1's as the lent index has them, the highest position first; then from N up, and not
+// by the image's length.
+fn next_block(g: Geometry, index: &[u8], s: Stock, j: usize) -> Block
+    requires { ⌜ Indexed g (now index) × Found g (now index) s j ⌝ }
+    ensures { λ b. ⌜ b .0 ≡ nextBlock g (now (index .entry)) s j ⌝ }
 {
-    for _ in 0..count {
-        grant(g, image, index, region);
+    if s.spare <= j {
+        return Block(s.taken + (j - s.spare) as u16);
+    }
+    let start = index::start_in(g, index, paper::RECLAIMED) as usize;
+    index::slot_in(g, index, start + (s.spare - 1 - j))
+}
+
+// The block at position p of the book when it has grown: one that it holds, or one that it will be granted.
+pub fn block_after(g: Geometry, index: &[u8], region: Region, s: Stock, p: Position) -> Block
+    requires { ⌜ Indexed g (now index) × FoundAt g (now index) (region .0) s (p .0) ⌝ }
+    ensures { λ b. ⌜ b .0 ≡ blockAfter g (now (index .entry)) (region .0) s (p .0) ⌝ }
+{
+    if s.held <= p.0 {
+        return next_block(g, index, s, p.0 - s.held);
+    }
+    let start = index::start_in(g, index, region) as usize;
+    index::slot_in(g, index, start + p.0)
+}
+
+// Block b, which the grant after j others takes, leaves region 1 or is counted in N.
+fn draw(g: Geometry, image: &mut [u8], s: Stock, j: usize, b: Block)
+    requires { ⌜ Readable g (now image) ⌝ }
+    requires { ⌜ (s .spare ≤ g .blocks) × (b .0 < g .blocks) ⌝ }
+    ensures { λ _. ⌜ now (image .exit) ≡ fronted g (drawn g s j (b .0) (front g (now (image .entry)))) (now (image .entry)) ⌝ }
+{
+    if s.spare <= j {
+        image::set_taken(g, image, b.0 + 1);
+        return;
+    }
+    let n = (s.spare - 1 - j) * g.pages;
+    image::set_pages(g, image, paper::RECLAIMED, Pages(n as u64));
+}
+
+// The grant after j others. The book's page count stays: until it is written the needs sum to less than N, and recovery refuses.
+fn grant(g: Geometry, image: &mut [u8], index: &[u8], region: Region, s: Stock, j: usize)
+    requires { ⌜ Readable g (now image) × Indexed g (now index) ⌝ }
+    requires { ⌜ Grantable g (now index) (region .0) s j ⌝ }
+    ensures { λ _. ⌜ now (image .exit) ≡ fronted g (placed g (now (index .entry)) (region .0) s j (front g (now (image .entry)))) (now (image .entry)) ⌝ }
+{
+    let b = next_block(g, index, s, j);
+    draw(g, image, s, j, b);
+    let place = Position(s.held + j);
+    image::set_entry(g, image, b, region, place);
+}
+
+// So many blocks more for the region, whose page count stays.
+pub fn grant_blocks(g: Geometry, image: &mut [u8], index: &[u8], region: Region, count: usize)
+    requires { ⌜ Readable g (now image) × Indexed g (now index) ⌝ }
+    requires { ⌜ ((j : ℕ) → j < count → Grantable g (now index) (region .0) (stockOf g (front g (now image)) (region .0)) j) ⌝ }
+    ensures { λ _. ⌜ now (image .exit) ≡ fronted g (steps count (placed g (now (index .entry)) (region .0) (stockOf g (front g (now (image .entry))) (region .0))) (front g (now (image .entry)))) (now (image .entry)) ⌝ }
+{
+    let s = take_stock(g, image, region);
+    for j in 0..count {
+        grant(g, image, index, region, s, j);
     }
 }
 

@@ -501,14 +501,19 @@ fn checks_1_to_7(g: Geometry, image: &[u8], index: &[u8]) -> Result<Tables, Why>
     Ok(tables)
 }
 
-fn recover(g: Geometry, image: &[u8], index: &mut [u8]) -> Outcome {
-    check_1(g)?;
-    check_2(g, index)?;
+/// The tables of an image that recovery accepts, at an allowed geometry.
+pub fn accepted(g: Geometry, image: &[u8]) -> Result<Tables, Why> {
     check_3(g, image)?;
     check_4(g, image)?;
     check_16(g, image)?;
     check_5(g, image)?;
-    let tables = check_6(g, image)?;
+    check_6(g, image)
+}
+
+fn recover(g: Geometry, image: &[u8], index: &mut [u8]) -> Outcome {
+    check_1(g)?;
+    check_2(g, index)?;
+    let tables = accepted(g, image)?;
     index.copy_from_slice(&tables.recovered(g));
     done(0)
 }

@@ -4,10 +4,12 @@ use mathlib.Core.Path.{_∙_, ap}
 use Rattle.laws.specs.Folds.{steps}
 use Rattle.paper.specs.Geometry.{need}
 use Rattle.paper.specs.Image.{front, setPages}
-use Rattle.paper.specs.Calls.{granted, newBlocks, grownFront}
+use Rattle.paper.specs.Calls.{newBlocks}
 use Rattle.paper.proofs.Arithmetic.{book-pages-bound}
+use Rattle.rules.proofs.Lines.{ordered-entered}
+use Rattle.tables.specs.Grant.{stockOf, placed}
 use Rattle.books.proofs.Left.{readable}
-use Rattle.books.proofs.Growing.{inside, need-up, each-grantable, pages-most}
+use Rattle.books.proofs.Growing.{inside, need-up, each-grantable, placed-front, pages-most}
 use native.Mathlib.Omega.{arith}
 use borrow.Author.Needs.{needs}
 use Rattle.books.proofs.grow_tables.Statement.{statement}
@@ -59,8 +61,12 @@ grant-blocks-requires c κs =
     let two = c .before in
     let read = old (two .before) in
     let s = start (read .before) in
-    let a = s .args in (
-      readable (a .g) (a .image .now) (a .index .now) (s .pre .ordered),
+    let a = s .args in
+    let O = s .pre .ordered in (
+      (
+        readable (a .g) (a .image .now) (a .index .now) O,
+        record { allowed = O .geometry; long = ordered-entered (a .g) (a .image .now) (a .index .now) O .indexed },
+      ),
       λ i h. each-grantable (a .g) (a .image .now) (a .index .now) (a .region .0) (a .pages .0) (s .pre) i
           (rw (two .before .need .ensures, two .need2 .ensures, read .pages .ensures) at h),
     )
@@ -79,7 +85,6 @@ same-length : tie.Need-same-length
 same-length c = search needs
 
 returns : tie.Need-returns
-unfolding grownFront
 returns c =
     let set = c .before .before in
     let last = set .before .before .before .before in
@@ -95,10 +100,10 @@ returns c =
     let e = two .before .need .ensures in
     let d = two .need2 .ensures in
     let p = read .pages in
-    then g (a .image .now) (w .last .1 .0) (steps (newBlocks g r (a .pages .0) t) (λ k u. granted g r u) t)
+    then g (a .image .now) (w .last .1 .0) (steps (newBlocks g r (a .pages .0) t) (placed g (a .index .now) r (stockOf g t r)) t)
     (readable g (a .image .now) (a .index .now) (s .pre .ordered)) (w .kept .1 .0) (rw (e, d, p .ensures) at (w .ensures))
     (setPages g r (p .result .0 + a .pages .0)) (v .last .1 .0) (v .ensures)
-    ∙ rw (p .ensures)
+    ∙ rw (p .ensures, placed-front g (a .image .now) (a .index .now) r (a .pages .0) (s .pre))
 
 pub grow-tables-spec : {M : Type 1} → statement M
 grow-tables-spec =

@@ -1,64 +1,52 @@
 -- `tables::grant` meets its contract.
-use mathlib.Core.Path.{_≡_, sym, _∙_}
-use borrow.Author.Tests.{eq-eqb, ne-eqb}
-use Rattle.paper.specs.Geometry.{reclaimed}
-use Rattle.paper.specs.Image.{front, needOf}
-use Rattle.paper.specs.Calls.{granted}
-use native.Mathlib.Omega.{arith}
+use Prim.Native.Nat.{_+_}
+use mathlib.Core.Path.{_∙_, ap}
+use Rattle.paper.specs.Image.{front, setEntry}
+use Rattle.rules.specs.Facts.{fronted}
+use Rattle.rules.proofs.Fronts.{then}
+use Rattle.tables.specs.Grant.{drawn}
 use borrow.Author.Needs.{needs}
 use Rattle.tables.proofs.grant.Statement.{statement}
 use Rattle.tables.proofs.grant.Tie as tie
 
--- where the call began, seen from the need known
-abbrev start : tie.After-need → tie.Start
-start c = c .before .before .before .before
+-- ---- the places, each from a later one: the start, the block known, and drawn
+abbrev start : tie.After-next-block → tie.Start
+start c = c .before .before .before
 
--- no reclaimed block
-none-spare : (c : tie.Then1) → let a = start (c .before) .args in needOf (a .g) (front (a .g) (a .image .now)) reclaimed ≡ 0
-none-spare c = sym (c .before .need .ensures) ∙ c .if1 .taken
+abbrev known : tie.After-draw → tie.After-next-block
+known c = c .before .before
 
-need-requires : tie.Need-need-requires
-need-requires c κs = search needs
+next-block-requires : tie.Need-next-block-requires
+next-block-requires c κs = search needs
 
-grant-new-requires : tie.Need-grant-new-requires
-grant-new-requires c κs =
-    let s = start (c .before .before) in
-    (s .pre .0, (s .pre .1 .inside, s .pre .1 .next, s .pre .1 .new (none-spare (c .before))))
+draw-requires : tie.Need-draw-requires
+draw-requires c κs = search needs
 
-grant-reclaimed-requires : tie.Need-grant-reclaimed-requires
-grant-reclaimed-requires c κs =
-    let s = start (c .before .before) in
-    (s .pre .0, (s .pre .1, omega (arith, c .before .before .need .ensures, c .before .if1 .left)))
+add-t12 : tie.Need-add-t12
+add-t12 c = search needs
+
+set-entry-requires : tie.Need-set-entry-requires
+set-entry-requires c κs = search needs
 
 same-length : tie.Need-same-length
 same-length c = search needs
 
 returns : tie.Need-returns
-unfolding granted
 returns c =
-    let new = c .before .before in
-    rw (eq-eqb _ _ (none-spare (new .before .before))) (new .grant-new .ensures)
-
-same-length-2 : tie.Need-same-length-2
-same-length-2 c = search needs
-
-returns-2 : tie.Need-returns-2
-unfolding granted
-returns-2 c =
-    let moved = c .before .before in
-    let some = moved .before .before in
-    let a = start (some .before) .args in
-    let spare = needOf (a .g) (front (a .g) (a .image .now)) reclaimed in
-    rw (ne-eqb spare 0 (λ z. some .if1 .left (some .before .need .ensures ∙ z))) (moved .grant-reclaimed .ensures)
+    let set = c .before .before in
+    let two = set .before .before .before .before .before in
+    let one = known two in
+    let s = start one in
+    let a = s .args in
+    let b = one .next-block in
+    let w = two .draw in
+    then (a .g) (a .image .now) (w .last .1 .0) (drawn (a .g) (a .s) (a .j) (b .result .0) (front (a .g) (a .image .now)))
+    (s .pre .0 .0) (w .kept .1 .0) (w .ensures)
+    (setEntry (a .g) (b .result .0) (a .region .0) (a .s .held + a .j)) (set .set-entry .last .1 .0) (set .set-entry .ensures)
+    ∙ ap (λ k. fronted (a .g) (setEntry (a .g) k (a .region .0) (a .s .held + a .j) (drawn (a .g) (a .s) (a .j) k (front (a .g) (a .image .now)))) (a .image .now))
+    (b .ensures)
 
 pub grant-spec : {M : Type 1} → statement M
 grant-spec =
     tie.close
-    (tie.spec
-    need-requires
-    grant-new-requires
-    grant-reclaimed-requires
-    same-length
-    returns
-    same-length-2
-    returns-2)
+    (tie.spec next-block-requires draw-requires add-t12 set-entry-requires same-length returns)

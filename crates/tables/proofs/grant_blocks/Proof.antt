@@ -1,52 +1,66 @@
 -- `tables::grant_blocks` meets its contract.
 use Prim.Native.Nat.{ℕ, _-_, _≤_}
-use mathlib.Core.Path.{_≡_, refl, _∙_}
+use mathlib.Core.Path.{_≡_, refl, _∙_, ap}
 use mathlib.Core.List.{List}
 use lib.ListN.{length}
 use Rattle.laws.specs.Folds.{steps}
 use Rattle.laws.proofs.Folds.{steps-none, steps-more}
 use Rattle.paper.specs.Image.{front}
-use Rattle.paper.specs.Calls.{granted}
+use Rattle.rules.specs.Facts.{fronted}
+use Rattle.rules.proofs.Fronts.{still-readable, unchanged, then}
+use Rattle.tables.specs.Grant.{stockOf, placed}
+use Rattle.tables.proofs.Spare.{stock-is}
 use native.Mathlib.Omega.{arith}
 use borrow.Author.Needs.{needs}
 use Rattle.tables.proofs.grant_blocks.Statement.{statement}
 use Rattle.tables.proofs.grant_blocks.Tie as tie
-use Rattle.rules.specs.Facts.{fronted}
-use Rattle.rules.proofs.Fronts.{still-readable, unchanged, front-is, then}
 
 abbrev Inv-loop : tie.InvT-loop
-Inv-loop g image₀ index region count counter₀ image counter =
-    (counter ≤ count) × (length image ≡ length image₀) × (image ≡ fronted g (steps counter (λ k u. granted g (region .0) u) (front g image₀)) image₀)
+Inv-loop g image₀ index region count s j₀ image j =
+    (j ≤ count) × (length image ≡ length image₀) × (image ≡ fronted g (steps j (placed g index (region .0) s) (front g image₀)) image₀)
 
 abbrev μ-loop : tie.MeasureT-loop
-μ-loop g image₀ index region count counter₀ image counter = count - counter
+μ-loop g image₀ index region count s j₀ image j = count - j
 
--- where the call began, seen from the loop's head
-abbrev start : tie.At-loop Inv-loop μ-loop → tie.Start Inv-loop μ-loop
-start c = c .before .before .before
+-- ---- the places, each from a later one: the start, the stock taken
+abbrev start : tie.After-take-stock Inv-loop μ-loop → tie.Start Inv-loop μ-loop
+start c = c .before .before .before .before
+
+abbrev stock : tie.At-loop Inv-loop μ-loop → tie.After-take-stock Inv-loop μ-loop
+stock c = c .before
+
+-- which is that of the tables before
+taken-from : (c : tie.After-take-stock Inv-loop μ-loop)
+    → let a = start c .args in
+    c .take-stock .result ≡ stockOf (a .g) (front (a .g) (a .image .now)) (a .region .0)
+taken-from c = let a = start c .args in stock-is (a .g) (front (a .g) (a .image .now)) (a .region .0) (c .take-stock .result) (c .take-stock .ensures)
 
 -- the front after the blocks granted so far
 abbrev so-far : tie.At-loop Inv-loop μ-loop → List ℕ
 so-far c =
-    let a = start c .args in
-    steps (c .loop .counter) (λ k u. granted (a .g) (a .region .0) u) (front (a .g) (a .image .now))
+    let a = start (stock c) .args in
+    steps (c .loop .j) (placed (a .g) (a .index .now) (a .region .0) (stock c .take-stock .result)) (front (a .g) (a .image .now))
+
+take-stock-requires : tie.Need-take-stock-requires Inv-loop μ-loop
+take-stock-requires c κs = search needs
 
 loop-holds : tie.Need-loop-holds Inv-loop μ-loop
 loop-holds c =
-    let a = c .before .before .args in
+    let a = start c .args in
     (omega arith, refl, rw steps-none (unchanged (a .g) (a .image .now)))
 
 grant-requires : tie.Need-grant-requires Inv-loop μ-loop
 grant-requires c κs =
     let at = c .before .before in
-    let s = start at in
+    let s = start (stock at) in
     let a = s .args in
-    let x = at .loop in
-    let f = front-is (a .g) (a .image .now) (x .image) (so-far at) (s .pre .0) (x .inv .1) (x .inv .2) in
-    (still-readable (a .g) (a .image .now) (x .image) (s .pre .0) (x .inv .1), rw f (s .pre .1 (x .counter) (omega arith)))
+    let x = at .loop in (
+      (still-readable (a .g) (a .image .now) (x .image) (s .pre .0 .0) (x .inv .1), s .pre .0 .1),
+      rw (taken-from (stock at)) (s .pre .1 (x .j) (omega arith)),
+    )
 
-add-counter : tie.Need-add-counter Inv-loop μ-loop
-add-counter c = search needs
+add-j : tie.Need-add-j Inv-loop μ-loop
+add-j c = search needs
 
 loop-less : tie.Need-loop-less Inv-loop μ-loop
 loop-less c = search needs
@@ -55,15 +69,15 @@ loop-again : tie.Need-loop-again Inv-loop μ-loop
 loop-again c =
     let one = c .before .before in
     let at = one .before .before .before in
-    let s = start at in
+    let s = start (stock at) in
     let a = s .args in
     let x = at .loop in
     let w = one .grant in (
       omega arith,
       w .kept .1 .0 ∙ x .inv .1,
-      then (a .g) (a .image .now) (x .image) (so-far at) (s .pre .0) (x .inv .1) (x .inv .2)
-          (granted (a .g) (a .region .0)) (w .last .1 .0) (w .ensures)
-          ∙ rw (steps-more (x .counter)),
+      then (a .g) (a .image .now) (x .image) (so-far at) (s .pre .0 .0) (x .inv .1) (x .inv .2)
+          (placed (a .g) (a .index .now) (a .region .0) (stock at .take-stock .result) (x .j)) (w .last .1 .0) (w .ensures)
+          ∙ rw (steps-more (x .j)),
     )
 
 same-length : tie.Need-same-length Inv-loop μ-loop
@@ -71,9 +85,13 @@ same-length c = search needs
 
 returns : tie.Need-returns Inv-loop μ-loop
 returns c =
-    let x = c .before .loop in
-    let e : x .counter ≡ start (c .before) .args .count = omega arith in
-    rw e at (x .inv .2)
+    let at = c .before in
+    let a = start (stock at) .args in
+    let x = at .loop in
+    let e : x .j ≡ a .count = omega arith in
+    (rw e at (x .inv .2))
+    ∙ ap (λ s. fronted (a .g) (steps (a .count) (placed (a .g) (a .index .now) (a .region .0) s) (front (a .g) (a .image .now))) (a .image .now))
+    (taken-from (stock at))
 
 pub grant-blocks-spec : {M : Type 1} → statement M
 grant-blocks-spec =
@@ -81,9 +99,10 @@ grant-blocks-spec =
     (tie.spec
     Inv-loop
     μ-loop
+    take-stock-requires
     loop-holds
     grant-requires
-    add-counter
+    add-j
     loop-less
     loop-again
     same-length
