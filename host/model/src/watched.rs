@@ -140,14 +140,13 @@ mod seen {
     /// Memory that a call can be watched on.
     pub struct Watched {
         memory: Guarded,
-        most: usize,
         seen: Vec<u8>,
     }
 
     impl Watched {
         /// For images of at most so many bytes and calls of at most so many writes.
         pub fn new(bytes: usize, writes: usize) -> Watched {
-            Watched { memory: Guarded::new(bytes), most: bytes, seen: vec![0; bytes * writes] }
+            Watched { memory: Guarded::new(bytes), seen: vec![0; bytes * writes] }
         }
 
         /// Makes a call on a copy of the image; answers what it answered, and the image after each of its writes.
@@ -179,7 +178,6 @@ mod seen {
             // SAFETY: the handlers wrote it behind the compiler's back, while nothing else held it.
             let count = unsafe { ptr::read_volatile(&raw const watch.count) };
             assert!(count <= watch.most, "{count} writes, and room to see {}", watch.most);
-            assert!(bytes <= self.most);
             // SAFETY: so many copies stand there.
             let seen = unsafe { slice::from_raw_parts(self.seen.as_ptr(), count * bytes) };
             (answer, seen.chunks(bytes.max(1)).collect())
