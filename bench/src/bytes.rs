@@ -4,7 +4,7 @@ use std::cell::RefCell;
 use std::hint::black_box;
 
 use jaaturbal_model::memory::{Guarded, Side};
-use jaaturbal_model::paper::{HOUSE, Tables};
+use jaaturbal_model::paper::{Book, HOUSE, Tables, Version};
 use jaaturbal_model::random::Random;
 
 use crate::manager::{Both, ByteCall};
@@ -28,15 +28,15 @@ impl Lie {
         }
     }
 
-    fn region(self) -> u32 {
+    fn book(self) -> Book {
         match self {
-            Lie::Adjacent => 16,
-            Lie::Scattered => 17,
+            Lie::Adjacent => Book { region: 16, edition: 0 },
+            Lie::Scattered => Book { region: 17, edition: 3 },
         }
     }
 }
 
-/// A full image: the two books, and the anonymous one with the rest of the blocks.
+/// A full image of version 3: the two books, and the anonymous one with the rest of the blocks.
 pub struct Sheets {
     image: Guarded,
     index: Vec<u8>,
@@ -51,9 +51,12 @@ impl Sheets {
         random.shuffle(&mut others);
         let scattered = others.split_off(others.len() - BLOCKS as usize);
 
-        let mut tables = Tables::empty(HOUSE);
+        let mut tables = Tables::empty(HOUSE, Version::Three);
         tables.taken = HOUSE.blocks;
         tables.counter = 18;
+        for Book { region, edition } in [Lie::Adjacent, Lie::Scattered].map(Lie::book) {
+            tables.editions[region as usize] = u64::from(edition);
+        }
         for (region, blocks) in [(0, &others), (16, &adjacent), (17, &scattered)] {
             tables.books[region] = Some(blocks.len() as u64 * HOUSE.pages);
             for (position, block) in (0..).zip(blocks) {
@@ -80,7 +83,7 @@ impl Sheets {
 struct Pass<'a> {
     call: ByteCall,
     sheets: &'a RefCell<Sheets>,
-    region: u32,
+    book: Book,
     offsets: &'a [u64],
     buffer: Vec<u8>,
 }
@@ -94,7 +97,7 @@ impl Subject for Pass<'_> {
         let mut sheets = self.sheets.borrow_mut();
         let (image, index) = sheets.lent();
         for offset in self.offsets {
-            let answer = (self.call)(image, index, self.region, black_box(*offset), &mut self.buffer);
+            let answer = (self.call)(image, index, self.book, black_box(*offset), &mut self.buffer);
             assert_eq!(answer, 0);
         }
     }
@@ -113,7 +116,7 @@ pub fn measured(sheets: &RefCell<Sheets>, call: Both<ByteCall>, lie: Lie, bytes:
     let offsets = offsets(bytes as u64);
     let mut buffer = vec![0; bytes];
     Random::new(13).fill(&mut buffer);
-    let pass = |call| Pass { call, sheets, region: lie.region(), offsets: &offsets, buffer: buffer.clone() };
+    let pass = |call| Pass { call, sheets, book: lie.book(), offsets: &offsets, buffer: buffer.clone() };
     let (mut proved, mut plain) = (pass(call.proved), pass(call.plain));
     let compared = compare(&mut proved, &mut plain);
     assert!(proved.buffer == plain.buffer, "{} of {bytes} bytes: the two differ", call.name);

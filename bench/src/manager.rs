@@ -1,7 +1,7 @@
 //! The two managers, call by call, at HOUSE; and recovery at the widest geometry.
 
 use jaaturbal::calls;
-use jaaturbal_model::paper::{self as model, Call, Lent, WIDEST};
+use jaaturbal_model::paper::{self as model, Book, Call, Lent, Version, WIDEST};
 
 use crate::plain::{self, packed};
 
@@ -9,10 +9,10 @@ use crate::plain::{self, packed};
 const HOUSE: u32 = 1;
 
 /// A load or a store.
-pub type ByteCall = fn(image: &mut [u8], index: &[u8], region: u32, offset: u64, buffer: &mut [u8]) -> u64;
+pub type ByteCall = fn(image: &mut [u8], index: &[u8], book: Book, offset: u64, buffer: &mut [u8]) -> u64;
 
-/// A call that works on the tables. Lay, open and recover make nothing of the region.
-pub type TableCall = fn(image: &mut [u8], index: &mut [u8], region: u32) -> u64;
+/// A call that works on the tables. Lay, move, open and recover make nothing of the book.
+pub type TableCall = fn(image: &mut [u8], index: &mut [u8], book: Book) -> u64;
 
 /// A call as both make it.
 #[derive(Clone, Copy)]
@@ -24,17 +24,21 @@ pub struct Both<Call> {
 
 pub const LOAD: Both<ByteCall> = Both {
     name: "load",
-    proved: |image, index, region, offset, buffer| calls::load(HOUSE, image, index, region, offset, buffer),
-    plain: |image, index, region, offset, buffer| packed(plain::load(HOUSE, image, index, region, offset, buffer)),
+    proved: |image, index, book, offset, buffer| {
+        calls::load(HOUSE, image, index, book.region, book.edition, offset, buffer)
+    },
+    plain: |image, index, book, offset, buffer| packed(plain::load(HOUSE, image, index, book, offset, buffer)),
 };
 
 pub const STORE: Both<ByteCall> = Both {
     name: "store",
-    proved: |image, index, region, offset, bytes| calls::store(HOUSE, image, index, region, offset, bytes),
-    plain: |image, index, region, offset, bytes| packed(plain::store(HOUSE, image, index, region, offset, bytes)),
+    proved: |image, index, book, offset, bytes| {
+        calls::store(HOUSE, image, index, book.region, book.edition, offset, bytes)
+    },
+    plain: |image, index, book, offset, bytes| packed(plain::store(HOUSE, image, index, book, offset, bytes)),
 };
 
-/// Over a header that is zeroed first, on both sides alike.
+/// Of version 3, over a header that is zeroed first, on both sides alike.
 pub const LAY: Both<TableCall> = Both {
     name: "lay",
     proved: |image, index, _| {
@@ -43,7 +47,7 @@ pub const LAY: Both<TableCall> = Both {
     },
     plain: |image, index, _| {
         image[..16].fill(0);
-        packed(plain::lay(HOUSE, image, index))
+        packed(plain::lay(HOUSE, Version::Three, image, index))
     },
 };
 
@@ -73,14 +77,14 @@ pub const OPEN: Both<TableCall> = Both {
 /// One page, for which the book needs a new block.
 pub const GROW: Both<TableCall> = Both {
     name: "grow",
-    proved: |image, index, region| calls::grow(HOUSE, image, index, region, 1),
-    plain: |image, index, region| packed(plain::grow(HOUSE, image, index, region, 1)),
+    proved: |image, index, book| calls::grow(HOUSE, image, index, book.region, book.edition, 1),
+    plain: |image, index, book| packed(plain::grow(HOUSE, image, index, book, 1)),
 };
 
 pub const RELEASE: Both<TableCall> = Both {
     name: "release",
-    proved: |image, index, region| calls::release(HOUSE, image, index, region),
-    plain: |image, index, region| packed(plain::release(HOUSE, image, index, region)),
+    proved: |image, index, book| calls::release(HOUSE, image, index, book.region, book.edition),
+    plain: |image, index, book| packed(plain::release(HOUSE, image, index, book)),
 };
 
 pub const RECOVER: Both<TableCall> = Both {

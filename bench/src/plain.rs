@@ -1,14 +1,14 @@
-//! An ordinary book manager in plain Rust: the checks, answers and bytes of document 01, with no proof. Passes over the
-//! tables are linear, the lent index is its own witness, and a bitmap finds pairs that are named twice. The calls are never
-//! inlined, as those of an archive cannot be.
+//! An ordinary book manager in plain Rust: the checks, answers and bytes of the paper, in both versions, with no proof. Passes
+//! over the tables are linear, the lent index is its own witness, and a bitmap finds pairs that are named twice. The calls are
+//! never inlined, as those of an archive cannot be.
 
 use std::ops::Range;
 
-use jaaturbal_model::paper::{Call, Lent, VALUE_BITS};
+use jaaturbal_model::paper::{Book, Call, Lent, VALUE_BITS, Version};
 
 const FIXED_REGIONS: usize = 16;
-const NOT_OPEN: u64 = u64::MAX;
 const NO_BLOCK: u16 = u16::MAX;
+const LAST_EDITION: u64 = u32::MAX as u64;
 
 /// Page bytes, pages in a block, blocks, region entries.
 #[derive(Clone, Copy)]
@@ -37,6 +37,47 @@ fn set_u16(bytes: &mut [u8], at: usize, value: usize) {
 
 fn u64_of(bytes: &[u8]) -> u64 {
     u64::from_le_bytes(bytes.try_into().expect("eight bytes"))
+}
+
+/// The bits of a region's entry that hold its page count: all of them, or in version 3 the lower half. All ones is "not open".
+/// The others hold the edition.
+#[derive(Clone, Copy)]
+struct SizeMask(u64);
+
+impl SizeMask {
+    fn of(version: Version) -> SizeMask {
+        match version {
+            Version::Two => SizeMask(u64::MAX),
+            Version::Three => SizeMask(u64::from(u32::MAX)),
+        }
+    }
+
+    /// Of an image whose header is in order.
+    fn told(image: &[u8]) -> SizeMask {
+        SizeMask::of(if image[4] == 3 { Version::Three } else { Version::Two })
+    }
+
+    fn pages(self, entry: u64) -> u64 {
+        entry & self.0
+    }
+
+    fn open(self, entry: u64) -> bool {
+        self.pages(entry) != self.0
+    }
+
+    /// 0 in version 2, which has no bits for it.
+    fn edition(self, entry: u64) -> u64 {
+        (entry & !self.0) >> 32
+    }
+
+    fn with_pages(self, entry: u64, pages: u64) -> u64 {
+        entry & !self.0 | pages
+    }
+
+    /// The entry of a region that is not open, its edition one higher where there is one.
+    fn closed(self, entry: u64) -> u64 {
+        (entry & !self.0) + (!self.0 & 1 << 32) | self.0
+    }
 }
 
 impl Geometry {
@@ -72,14 +113,23 @@ impl Geometry {
         pages.div_ceil(self.pages as u64) as usize
     }
 
-    fn pages_of(self, image: &[u8], region: usize) -> u64 {
+    fn region_entry(self, image: &[u8], region: usize) -> u64 {
         let at = self.regions_at() + 8 * region;
         u64_of(&image[at..at + 8])
     }
 
-    fn set_pages(self, image: &mut [u8], region: usize, pages: u64) {
+    fn set_region_entry(self, image: &mut [u8], region: usize, entry: u64) {
         let at = self.regions_at() + 8 * region;
-        image[at..at + 8].copy_from_slice(&pages.to_le_bytes());
+        image[at..at + 8].copy_from_slice(&entry.to_le_bytes());
+    }
+
+    fn pages_of(self, image: &[u8], mask: SizeMask, region: usize) -> u64 {
+        mask.pages(self.region_entry(image, region))
+    }
+
+    fn set_pages(self, image: &mut [u8], mask: SizeMask, region: usize, pages: u64) {
+        let entry = self.region_entry(image, region);
+        self.set_region_entry(image, region, mask.with_pages(entry, pages));
     }
 
     fn set_entry(self, image: &mut [u8], block: usize, region: usize, position: usize) {
@@ -102,12 +152,12 @@ impl Geometry {
             return Err(3);
         }
         let (taken, counter) = (u16_at(image, 8), u16_at(image, 10));
-        let marks = u64_of(&image[0..8]) == 2 << 32 && image[12..16] == [0; 4];
+        let marks = matches!(u64_of(&image[0..8]), 0x2_0000_0000 | 0x3_0000_0000) && image[12..16] == [0; 4];
         if !marks || taken > self.blocks || !(FIXED_REGIONS..self.entries).contains(&counter) {
             return Err(4);
         }
         let capacity = self.blocks.min(image.len() / self.block_bytes() - 1);
-        Ok(Header { taken, counter, capacity })
+        Ok(Header { taken, counter, capacity, mask: SizeMask::told(image) })
     }
 
     /// Refusals 3 to 5.
@@ -129,6 +179,7 @@ struct Header {
     taken: usize,
     counter: usize,
     capacity: usize,
+    mask: SizeMask,
 }
 
 impl Header {
@@ -146,18 +197,23 @@ pub fn all_zero(bytes: &[u8]) -> bool {
 /// One pass over the region table: rules a, b and c. `each_start` sees where each region's slots start, the end last.
 fn regions_in_order(g: Geometry, image: &[u8], header: &Header, mut each_start: impl FnMut(usize, usize)) -> bool {
     let table = &image[g.regions_at()..g.regions_at() + 8 * g.entries];
+    let mask = header.mask;
     let mut start = 0;
     for (region, entry) in table.chunks_exact(8).enumerate() {
         each_start(region, start);
-        let pages = u64_of(entry);
-        if pages == NOT_OPEN {
+        let entry = u64_of(entry);
+        let (pages, edition) = (mask.pages(entry), mask.edition(entry));
+        if edition != 0 && (region < FIXED_REGIONS || region >= header.counter) {
+            return false;
+        }
+        if !mask.open(entry) {
             if region < FIXED_REGIONS {
                 return false;
             }
             continue;
         }
         let odd = region == 1 && !pages.is_multiple_of(g.pages as u64);
-        if region >= header.counter || pages > g.most_book_pages() || odd {
+        if region >= header.counter || pages > g.most_book_pages() || odd || edition == LAST_EDITION {
             return false;
         }
         start += g.need(pages);
@@ -233,13 +289,14 @@ fn checked(geometry: u32, image: &[u8], index: &[u8]) -> Answer<(Geometry, Heade
 
 /// Writes the index of well-formed tables.
 fn write_index(g: Geometry, image: &[u8], index: &mut [u8], taken: usize) {
+    let mask = SizeMask::told(image);
     let mut start = 0;
     let table = &image[g.regions_at()..g.regions_at() + 8 * g.entries];
     for (region, entry) in table.chunks_exact(8).enumerate() {
         set_u16(index, 2 * region, start);
-        let pages = u64_of(entry);
-        if pages != NOT_OPEN {
-            start += g.need(pages);
+        let entry = u64_of(entry);
+        if mask.open(entry) {
+            start += g.need(mask.pages(entry));
         }
     }
     set_u16(index, 2 * g.entries, start);
@@ -251,16 +308,20 @@ fn write_index(g: Geometry, image: &[u8], index: &mut [u8], taken: usize) {
     slots[2 * taken..].fill(u8::MAX);
 }
 
-/// Refusal 8; where it does not apply, the region and its pages.
-fn book(g: Geometry, image: &[u8], region: u32) -> Answer<(usize, u64)> {
-    let region = region as usize;
+/// Refusals 8 and 18; where neither applies, the region and its pages.
+fn named(g: Geometry, image: &[u8], mask: SizeMask, book: Book) -> Answer<(usize, u64)> {
+    let region = book.region as usize;
     if (1..FIXED_REGIONS).contains(&region) || region >= g.entries - 1 {
         return Err(8);
     }
-    match g.pages_of(image, region) {
-        NOT_OPEN => Err(8),
-        pages => Ok((region, pages)),
+    let entry = g.region_entry(image, region);
+    if !mask.open(entry) {
+        return Err(8);
     }
+    if mask.edition(entry) != u64::from(book.edition) {
+        return Err(18);
+    }
+    Ok((region, mask.pages(entry)))
 }
 
 /// Refusals 1, 2 and 3.
@@ -271,23 +332,24 @@ fn new_image(geometry: u32, image: &[u8], index: &[u8]) -> Answer<Geometry> {
 }
 
 /// A whole reserve, with no block taken.
-fn write_reserve(g: Geometry, image: &mut [u8]) {
-    image[..16].copy_from_slice(&[0, 0, 0, 0, 2, 0, 0, 0, 0, 0, 16, 0, 0, 0, 0, 0]);
+fn write_reserve(g: Geometry, version: Version, image: &mut [u8]) {
+    image[..16].copy_from_slice(&[0, 0, 0, 0, version.number() as u8, 0, 0, 0, 0, 0, 16, 0, 0, 0, 0, 0]);
     let blank = ((g.entries - 1) as u32).to_le_bytes();
     image[16..g.regions_at()].chunks_exact_mut(4).for_each(|entry| entry.copy_from_slice(&blank));
     let (fixed, rest) = image[g.regions_at()..g.regions_at() + 8 * g.entries].split_at_mut(8 * FIXED_REGIONS);
     fixed.fill(0);
-    rest.fill(u8::MAX);
+    let not_open = SizeMask::of(version).0.to_le_bytes();
+    rest.chunks_exact_mut(8).for_each(|entry| entry.copy_from_slice(&not_open));
     image[g.unused()].fill(0);
 }
 
 #[inline(never)]
-pub fn lay(geometry: u32, image: &mut [u8], index: &mut [u8]) -> Answer<u64> {
+pub fn lay(geometry: u32, version: Version, image: &mut [u8], index: &mut [u8]) -> Answer<u64> {
     let g = new_image(geometry, image, index)?;
     if image[..16].iter().any(|byte| *byte != 0) {
         return Err(12);
     }
-    write_reserve(g, image);
+    write_reserve(g, version, image);
     write_index(g, image, index, 0);
     Ok(0)
 }
@@ -301,10 +363,10 @@ pub fn move_over(geometry: u32, image: &mut [u8], index: &mut [u8], pages: u64) 
     }
     let k = k as usize;
     image.copy_within(..g.block_bytes(), k * g.block_bytes());
-    write_reserve(g, image);
+    write_reserve(g, Version::Two, image);
     set_u16(image, 8, k);
     (0..k).for_each(|block| g.set_entry(image, block, 0, (block + 1) % k));
-    g.set_pages(image, 0, pages);
+    g.set_region_entry(image, 0, pages);
     write_index(g, image, index, k);
     Ok(0)
 }
@@ -330,22 +392,26 @@ pub fn recover_at(g: Geometry, image: &[u8], index: &mut [u8]) -> Answer<u64> {
 #[inline(never)]
 pub fn open(geometry: u32, image: &mut [u8], index: &mut [u8]) -> Answer<u64> {
     let (g, header) = checked(geometry, image, index)?;
+    let mask = header.mask;
+    let openable = |entry: u64| !mask.open(entry) && mask.edition(entry) != LAST_EDITION;
     let region = if header.counter < g.entries - 1 {
         set_u16(image, 10, header.counter + 1);
         header.counter
     } else {
-        (FIXED_REGIONS..g.entries - 1).find(|region| g.pages_of(image, *region) == NOT_OPEN).ok_or(11u64)?
+        (FIXED_REGIONS..g.entries - 1).find(|region| openable(g.region_entry(image, *region))).ok_or(11u64)?
     };
     // A book with no pages holds no blocks, so the index stays.
-    g.set_pages(image, region, 0);
-    Ok(region as u64)
+    g.set_pages(image, mask, region, 0);
+    let edition = mask.edition(g.region_entry(image, region));
+    Ok(Book { region: region as u32, edition: edition as u32 }.value())
 }
 
 #[inline(never)]
-pub fn grow(geometry: u32, image: &mut [u8], index: &mut [u8], region: u32, pages: u64) -> Answer<u64> {
+pub fn grow(geometry: u32, image: &mut [u8], index: &mut [u8], book: Book, pages: u64) -> Answer<u64> {
     let (g, mut header) = checked(geometry, image, index)?;
-    let (region, old) = book(g, image, region)?;
-    let mut reclaimed = g.need(g.pages_of(image, 1));
+    let mask = header.mask;
+    let (region, old) = named(g, image, mask, book)?;
+    let mut reclaimed = g.need(g.pages_of(image, mask, 1));
     let held = g.need(old);
     let grown = old.checked_add(pages).ok_or(10u64)?;
     let new = g.need(grown) - held;
@@ -363,8 +429,8 @@ pub fn grow(geometry: u32, image: &mut [u8], index: &mut [u8], region: u32, page
         };
         g.set_entry(image, block, region, position);
     }
-    g.set_pages(image, 1, (reclaimed * g.pages) as u64);
-    g.set_pages(image, region, grown);
+    g.set_pages(image, mask, 1, (reclaimed * g.pages) as u64);
+    g.set_pages(image, mask, region, grown);
     set_u16(image, 8, header.taken);
     if new > 0 {
         write_index(g, image, index, header.taken);
@@ -382,21 +448,23 @@ pub fn grow(geometry: u32, image: &mut [u8], index: &mut [u8], region: u32, page
 }
 
 #[inline(never)]
-pub fn release(geometry: u32, image: &mut [u8], index: &mut [u8], region: u32) -> Answer<u64> {
+pub fn release(geometry: u32, image: &mut [u8], index: &mut [u8], book: Book) -> Answer<u64> {
     let (g, header) = checked(geometry, image, index)?;
-    if region == 0 {
+    let mask = header.mask;
+    if book.region == 0 {
         return Err(8);
     }
-    let (region, pages) = book(g, image, region)?;
-    let reclaimed = g.pages_of(image, 1);
+    let (region, pages) = named(g, image, mask, book)?;
+    let reclaimed = g.pages_of(image, mask, 1);
     let (first, held) = (g.need(reclaimed), g.need(pages));
     let start = u16_at(index, 2 * region);
     for position in 0..held {
         let block = g.slot(index, start + position);
         g.set_entry(image, block, 1, first + position);
     }
-    g.set_pages(image, 1, reclaimed + (held * g.pages) as u64);
-    g.set_pages(image, region, NOT_OPEN);
+    g.set_pages(image, mask, 1, reclaimed + (held * g.pages) as u64);
+    let entry = g.region_entry(image, region);
+    g.set_region_entry(image, region, mask.closed(entry));
     if held > 0 {
         write_index(g, image, index, header.taken);
     }
@@ -404,10 +472,10 @@ pub fn release(geometry: u32, image: &mut [u8], index: &mut [u8], region: u32) -
 }
 
 #[inline(never)]
-pub fn size(geometry: u32, image: &[u8], region: u32) -> Answer<u64> {
+pub fn size(geometry: u32, image: &[u8], book: Book) -> Answer<u64> {
     let g = Geometry::numbered(geometry)?;
-    g.header(image)?;
-    let (_, pages) = book(g, image, region)?;
+    let header = g.header(image)?;
+    let (_, pages) = named(g, image, header.mask, book)?;
     if pages > g.most_book_pages() { Err(6) } else { Ok(pages) }
 }
 
@@ -422,11 +490,11 @@ struct Stretches {
 }
 
 impl Stretches {
-    /// Refusals 1 to 5, 8, 6 and 9.
-    fn asked(geometry: u32, image: &[u8], index: &[u8], region: u32, offset: u64, bytes: usize) -> Answer<Stretches> {
+    /// Refusals 1 to 5, 8, 18, 6 and 9.
+    fn asked(geometry: u32, image: &[u8], index: &[u8], book: Book, offset: u64, bytes: usize) -> Answer<Stretches> {
         let g = Geometry::numbered(geometry)?;
         let header = g.lent(image, index)?;
-        let (region, pages) = book(g, image, region)?;
+        let (region, pages) = named(g, image, header.mask, book)?;
         if pages > g.most_book_pages() {
             return Err(6);
         }
@@ -468,8 +536,8 @@ impl Stretches {
 }
 
 #[inline(never)]
-pub fn load(geometry: u32, image: &[u8], index: &[u8], region: u32, offset: u64, buffer: &mut [u8]) -> Answer<u64> {
-    let asked = Stretches::asked(geometry, image, index, region, offset, buffer.len())?;
+pub fn load(geometry: u32, image: &[u8], index: &[u8], book: Book, offset: u64, buffer: &mut [u8]) -> Answer<u64> {
+    let asked = Stretches::asked(geometry, image, index, book, offset, buffer.len())?;
     asked.check(image, index)?;
     let mut past = 0;
     while past < asked.bytes {
@@ -481,8 +549,8 @@ pub fn load(geometry: u32, image: &[u8], index: &[u8], region: u32, offset: u64,
 }
 
 #[inline(never)]
-pub fn store(geometry: u32, image: &mut [u8], index: &[u8], region: u32, offset: u64, bytes: &[u8]) -> Answer<u64> {
-    let asked = Stretches::asked(geometry, image, index, region, offset, bytes.len())?;
+pub fn store(geometry: u32, image: &mut [u8], index: &[u8], book: Book, offset: u64, bytes: &[u8]) -> Answer<u64> {
+    let asked = Stretches::asked(geometry, image, index, book, offset, bytes.len())?;
     asked.check(image, index)?;
     let mut past = 0;
     while past < asked.bytes {
@@ -502,14 +570,14 @@ pub fn packed(answer: Answer<u64>) -> u64 {
 pub fn make(geometry: u32, call: Call, lent: Lent<'_>) -> u64 {
     let Lent { image, index, buffer } = lent;
     packed(match call {
-        Call::Lay => lay(geometry, image, index),
+        Call::Lay(version) => lay(geometry, version, image, index),
         Call::Move { pages } => move_over(geometry, image, index, pages),
         Call::Open => open(geometry, image, index),
-        Call::Grow { region, pages } => grow(geometry, image, index, region, pages),
-        Call::Load { region, offset } => load(geometry, image, index, region, offset, buffer),
-        Call::Store { region, offset } => store(geometry, image, index, region, offset, buffer),
-        Call::Size { region } => size(geometry, image, region),
-        Call::Release { region } => release(geometry, image, index, region),
+        Call::Grow { book, pages } => grow(geometry, image, index, book, pages),
+        Call::Load { book, offset } => load(geometry, image, index, book, offset, buffer),
+        Call::Store { book, offset } => store(geometry, image, index, book, offset, buffer),
+        Call::Size { book } => size(geometry, image, book),
+        Call::Release { book } => release(geometry, image, index, book),
         Call::Recover => recover(geometry, image, index),
     })
 }

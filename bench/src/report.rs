@@ -44,7 +44,7 @@ pub fn page(rows: &[Row], machine: &str) -> String {
          Each proved call against an ordinary Rust version with the same checks (`bench/src/plain.rs`, held to the same model), \
          both optimised by LLVM at level 3, in one process and in turns. A time is the median of {ROUNDS} rounds, with the \
          quartiles; the ratio is the median of the rounds' ratios, with theirs. HOUSE images are mapped without \
-         reserving memory.\n\n\
+         reserving memory. Images are of version 3; a move makes version 2.\n\n\
          ![The ratios](bench.svg)\n\n\
          {}\n\
          - Loads and stores: at 256 offsets of a book of eight blocks (16 offsets for 1 MiB), in an image with every block taken. \

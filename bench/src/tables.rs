@@ -1,9 +1,9 @@
-//! The calls that work on the tables: many books, the blocks of each in any order.
+//! The calls that work on the tables: many books, the blocks of each in any order, in an image of version 3.
 
 use std::cell::RefCell;
 
 use jaaturbal_model::memory::{Guarded, Side};
-use jaaturbal_model::paper::{Geometry, Tables, apart};
+use jaaturbal_model::paper::{Book, Geometry, Tables, Version, apart};
 use jaaturbal_model::random::Random;
 use jaaturbal_model::tables::{Wanted, drawn};
 
@@ -18,18 +18,27 @@ pub struct Ledger {
     front: Vec<u8>,
     right_index: Vec<u8>,
     /// A book that holds several blocks, all of them full.
-    book: u32,
+    book: Book,
 }
 
 impl Ledger {
     pub fn drawn(g: Geometry, blocks: u64) -> Ledger {
-        let wanted =
-            Wanted { taken: blocks, opened: blocks / 2, released: 5, share: 8, kept_share: 0, kept_back: (2, 15) };
+        let wanted = Wanted {
+            version: Version::Three,
+            taken: blocks,
+            opened: blocks / 2,
+            released: 5,
+            worn_out: 0,
+            share: 8,
+            kept_share: 0,
+            kept_back: (2, 15),
+        };
         let mut tables = drawn(g, &wanted, &mut Random::new(21));
         reclaim_one(g, &mut tables);
         tables.well_formed(g).expect("tables as they are drawn");
         let full = |region: &u64| tables.books[*region as usize].is_some_and(|pages| pages == 6 * g.pages);
-        let book = (16..tables.counter).find(full).expect("among so many books, one of six full blocks");
+        let region = (16..tables.counter).find(full).expect("among so many books, one of six full blocks");
+        let book = Book { region: region as u32, edition: tables.editions[region as usize] as u32 };
         let bytes = g.data_at(blocks);
         let mut front = vec![0; g.front_bytes()];
         tables.write(g, &mut front);
@@ -37,7 +46,7 @@ impl Ledger {
         let mut image = Guarded::new(bytes);
         // The rest of the reserve is memory of its own, as in an image that was laid, and not a page of zeros over and over.
         image.part(bytes, Side::Front)[g.unused()].fill(0);
-        Ledger { image, bytes, index: right_index.clone(), front, right_index, book: book as u32 }
+        Ledger { image, bytes, index: right_index.clone(), front, right_index, book }
     }
 
     /// Puts tables and index back to what they were drawn as.

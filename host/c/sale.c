@@ -1,4 +1,5 @@
-/* One sale in C: a book is opened and bids are stored in it; the index is lost; the image alone brings the bids back. */
+/* One sale in C: a book is opened and bids are stored in it; the index is lost; the image alone brings the bids back. Then the book
+ * is released and its region opened for another sale, and a late bid for the first is refused. */
 #include <stdio.h>
 #include <string.h>
 
@@ -22,7 +23,7 @@ static int refused(const char *call, uint64_t answer)
 int main(void)
 {
     uint64_t answer;
-    uint32_t sale, bid;
+    uint32_t region, edition, bid;
     char line[32], read_back[32];
 
     if (refused("lay", book_lay(BOOK_BENCH, image, sizeof image, book_index, sizeof book_index)))
@@ -30,13 +31,14 @@ int main(void)
     answer = book_open(BOOK_BENCH, image, sizeof image, book_index, sizeof book_index);
     if (refused("open", answer))
         return 1;
-    sale = (uint32_t)BOOK_VALUE(answer);
-    if (refused("grow", book_grow(BOOK_BENCH, image, sizeof image, book_index, sizeof book_index, sale, 10)))
+    region = BOOK_REGION(BOOK_VALUE(answer));
+    edition = BOOK_EDITION(BOOK_VALUE(answer));
+    if (refused("grow", book_grow(BOOK_BENCH, image, sizeof image, book_index, sizeof book_index, region, edition, 10)))
         return 1;
     for (bid = 0; bid < BIDS; bid++) {
         memset(line, 0, sizeof line);
         snprintf(line, sizeof line, "lot 7, bid %u: %u", (unsigned)bid, 1000 + 25 * (unsigned)bid);
-        if (refused("store", book_store(BOOK_BENCH, image, sizeof image, book_index, sizeof book_index, sale,
+        if (refused("store", book_store(BOOK_BENCH, image, sizeof image, book_index, sizeof book_index, region, edition,
                                         bid * sizeof line, (const uint8_t *)line, sizeof line)))
             return 1;
     }
@@ -47,7 +49,7 @@ int main(void)
     for (bid = 0; bid < BIDS; bid++) {
         memset(line, 0, sizeof line);
         snprintf(line, sizeof line, "lot 7, bid %u: %u", (unsigned)bid, 1000 + 25 * (unsigned)bid);
-        if (refused("load", book_load(BOOK_BENCH, image, sizeof image, book_index, sizeof book_index, sale,
+        if (refused("load", book_load(BOOK_BENCH, image, sizeof image, book_index, sizeof book_index, region, edition,
                                       bid * sizeof line, (uint8_t *)read_back, sizeof read_back)))
             return 1;
         if (memcmp(line, read_back, sizeof line) != 0) {
@@ -55,11 +57,25 @@ int main(void)
             return 1;
         }
     }
-    answer = book_size(BOOK_BENCH, image, sizeof image, sale);
-    printf("%d bids read back from region %u, %u pages\n", BIDS, (unsigned)sale, (unsigned)BOOK_VALUE(answer));
-    if (refused("release", book_release(BOOK_BENCH, image, sizeof image, book_index, sizeof book_index, sale)))
+    answer = book_size(BOOK_BENCH, image, sizeof image, region, edition);
+    printf("%d bids read back from region %u, edition %u, %u pages\n", BIDS, (unsigned)region, (unsigned)edition,
+           (unsigned)BOOK_VALUE(answer));
+    if (refused("release", book_release(BOOK_BENCH, image, sizeof image, book_index, sizeof book_index, region, edition)))
         return 1;
-    answer = book_size(BOOK_BENCH, image, sizeof image, sale);
+    answer = book_size(BOOK_BENCH, image, sizeof image, region, edition);
     printf("after release: refusal %u\n", (unsigned)BOOK_REFUSAL(answer));
-    return BOOK_REFUSAL(answer) == BOOK_REGION_NOT_USABLE ? 0 : 1;
+    if (BOOK_REFUSAL(answer) != BOOK_REGION_NOT_USABLE)
+        return 1;
+
+    /* A region is opened again when all others were given out. */
+    do {
+        answer = book_open(BOOK_BENCH, image, sizeof image, book_index, sizeof book_index);
+        if (refused("open", answer))
+            return 1;
+    } while (BOOK_REGION(BOOK_VALUE(answer)) != region);
+    printf("region %u opened again: edition %u\n", (unsigned)region, (unsigned)BOOK_EDITION(BOOK_VALUE(answer)));
+    answer = book_store(BOOK_BENCH, image, sizeof image, book_index, sizeof book_index, region, edition, 0,
+                        (const uint8_t *)line, sizeof line);
+    printf("a bid for edition %u: refusal %u\n", (unsigned)edition, (unsigned)BOOK_REFUSAL(answer));
+    return BOOK_REFUSAL(answer) == BOOK_EDITION_WRONG ? 0 : 1;
 }

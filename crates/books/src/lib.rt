@@ -13,6 +13,7 @@ ghost use Rattle.rules.specs.Facts.{Formed, Readable, fronted, Indexed};
 ghost use Rattle.keeping.specs.Kept.{zeroedNew};
 ghost use Rattle.books.specs.Room.{hasRoom, Growing};
 use paper::Answer;
+use paper::Edition;
 use paper::Geometry;
 use paper::Offset;
 use paper::Pages;
@@ -42,8 +43,8 @@ fn index_anew(g: Geometry, image: &[u8], index: &mut [u8])
     index::write_index(g, image, index);
 }
 
-// Open: while C is below E-1, gives C and raises it; then the lowest region from 16 to E-2 that is not open. A book with no pages has
-// no blocks, so the index stays.
+// Open: while C is below E-1, gives C and raises it; then the lowest region from 16 to E-2 that is not open and not at its last edition. A
+// book with no pages has no blocks, so the index stays.
 pub fn open(g: Geometry, image: &mut [u8], index: &mut [u8]) -> Answer
     ensures { λ a. ⌜ gives a [] (lent (now (image .exit)) (now (index .exit))) ≡ outcome g «open» (lent (now (image .entry)) (now (index .entry))) ⌝ }
 {
@@ -55,13 +56,20 @@ pub fn open(g: Geometry, image: &mut [u8], index: &mut [u8]) -> Answer
     if g.no_region().0 <= r.0 {
         return Answer::Refused(desk::NO_REGION);
     }
+    let edition = image::edition(g, image, r);
     tables::open_tables(g, image, r);
-    Answer::Done(r.0 as u64)
+    Answer::Opened { region: r, edition }
 }
 
-// Release: appends the book's blocks to region 1 in position order, sets "not open".
-pub fn release(g: Geometry, image: &mut [u8], index: &mut [u8], region: Region) -> Answer
-    ensures { λ a. ⌜ gives a [] (lent (now (image .exit)) (now (index .exit))) ≡ outcome g (release (region .0)) (lent (now (image .entry)) (now (index .entry))) ⌝ }
+// Release: appends the book's blocks to region 1 in position order, sets "not open" and raises the edition.
+pub fn release(
+    g: Geometry,
+    image: &mut [u8],
+    index: &mut [u8],
+    region: Region,
+    edition: Edition,
+) -> Answer
+    ensures { λ a. ⌜ gives a [] (lent (now (image .exit)) (now (index .exit))) ≡ outcome g (release (region .0) (edition .0)) (lent (now (image .entry)) (now (index .entry))) ⌝ }
 {
     let no = recovery::ordered(g, image, index);
     if no != 0 {
@@ -72,6 +80,9 @@ pub fn release(g: Geometry, image: &mut [u8], index: &mut [u8], region: Region) 
     }
     if !desk::usable(g, image, region) {
         return Answer::Refused(desk::REGION);
+    }
+    if !desk::is_edition(g, image, region, edition) {
+        return Answer::Refused(desk::EDITION);
     }
     tables::release_tables(g, image, region);
     index_anew(g, image, index);
@@ -128,8 +139,15 @@ fn extend(g: Geometry, image: &mut [u8], index: &mut [u8], region: Region, old: 
 }
 
 // Grow by so many pages: answers the old page count.
-pub fn grow(g: Geometry, image: &mut [u8], index: &mut [u8], region: Region, pages: Pages) -> Answer
-    ensures { λ a. ⌜ gives a [] (lent (now (image .exit)) (now (index .exit))) ≡ outcome g (grow (region .0) (pages .0)) (lent (now (image .entry)) (now (index .entry))) ⌝ }
+pub fn grow(
+    g: Geometry,
+    image: &mut [u8],
+    index: &mut [u8],
+    region: Region,
+    edition: Edition,
+    pages: Pages,
+) -> Answer
+    ensures { λ a. ⌜ gives a [] (lent (now (image .exit)) (now (index .exit))) ≡ outcome g (grow (region .0) (edition .0) (pages .0)) (lent (now (image .entry)) (now (index .entry))) ⌝ }
 {
     let no = recovery::ordered(g, image, index);
     if no != 0 {
@@ -137,6 +155,9 @@ pub fn grow(g: Geometry, image: &mut [u8], index: &mut [u8], region: Region, pag
     }
     if !desk::usable(g, image, region) {
         return Answer::Refused(desk::REGION);
+    }
+    if !desk::is_edition(g, image, region, edition) {
+        return Answer::Refused(desk::EDITION);
     }
     if !has_room(g, image, region, pages) {
         return Answer::Refused(desk::NO_ROOM);

@@ -1,15 +1,17 @@
-// The bench table through the compiled calls: a line for each case, with eight of the house after them.
+// The bench table through the compiled calls: a line for each case, with eight of the house after them, and case 11 amended for version 3.
 // The table is walked row by row, and a case holds where each of its rows does.
 use libc::STDOUT_FILENO;
 use paper::Answer;
+use paper::Edition;
 use paper::Geometry;
 use paper::Offset;
 use paper::Pages;
 use paper::Region;
+use paper::Version;
 
 const G: Geometry = Geometry::BENCH;
 
-// What a row does: a call, which answers the row's refusal and value, a recovery from a copy of the image cut to so many bytes,
+// What a row does: a call, which answers the row's refusal and value, a lay of version 2, a recovery from a copy of the image cut to so many bytes,
 const LAY: u64 = 0;
 
 const OPEN: u64 = 1;
@@ -48,12 +50,16 @@ const INDEX: u64 = 15;
 // A move of an older memory of so many pages is a call too.
 const MOVE: u64 = 16;
 
-// The columns of a row, in their order. The number is pages, an offset, or the bytes of a copy.
+// So is a lay of version 3.
+const LAY_3: u64 = 17;
+
+// The columns of a row, in their order. A book is one number: its region, and its edition above the region's two bytes. The number is pages,
+// an offset, or the bytes of a copy.
 const CASE: usize = 0;
 
 const DOES: usize = 1;
 
-const REGION: usize = 2;
+const BOOK: usize = 2;
 
 const NUMBER: usize = 3;
 
@@ -308,11 +314,41 @@ const CASE_20: [[u64; 7]; 23] = [
     [20, LOAD, 0, 511, 2, 0, 0x4433],
 ];
 
+const CASE_21: [[u64; 7]; 18] = [
+    // Case 11 in version 3: a released region is given again with its next edition, and whoever names the old one is refused.
+    [21, ZERO, 0, 0, 0, 0, 0],
+    [21, LAY_3, 0, 0, 0, 0, 0],
+    [21, HAS4, 0, 4, 1, 0, 3],
+    [21, OPEN, 0, 0, 0, 0, 16],
+    [21, OPEN, 0, 0, 0, 0, 17],
+    [21, OPEN, 0, 0, 0, 0, 18],
+    [21, OPEN, 0, 0, 0, 0, 19],
+    [21, OPEN, 0, 0, 0, 0, 20],
+    [21, OPEN, 0, 0, 0, 0, 21],
+    [21, OPEN, 0, 0, 0, 0, 22],
+    [21, OPEN, 0, 0, 0, 11, 0],
+    [21, RELEASE, 18, 0, 0, 0, 0],
+    [21, OPEN, 0, 0, 0, 0, 0x10012],
+    [21, GROW, 18, 1, 0, 18, 0],
+    [21, GROW, 0x10012, 1, 0, 0, 0],
+    [21, STORE, 18, 0, 1, 18, 0],
+    [21, SIZE, 0x10012, 0, 0, 0, 1],
+    [21, HAS4, 0, 228, 1, 0, 1],
+];
+
 // For a row that is no call, or loads or stores more bytes than there are for it.
 const ODD: u8 = 99;
 
 fn region(row: [u64; 7]) -> Region {
-    Region((row[REGION] % 65536) as u32)
+    Region((row[BOOK] % 65536) as u32)
+}
+
+fn edition(row: [u64; 7]) -> Edition {
+    Edition((row[BOOK] / 65536 % 4294967296) as u32)
+}
+
+fn book(region: Region, edition: Edition) -> u64 {
+    region.0 as u64 + edition.0 as u64 * 65536
 }
 
 fn wide(b: u8) -> u64 {
@@ -331,13 +367,25 @@ fn number(part: &[u8]) -> u64 {
 
 // ---- the call of a row
 
+fn grow(image: &mut [u8], index: &mut [u8], row: [u64; 7]) -> Answer {
+    books::grow(
+        G,
+        image,
+        index,
+        region(row),
+        edition(row),
+        Pages(row[NUMBER]),
+    )
+}
+
 fn table_call(image: &mut [u8], index: &mut [u8], row: [u64; 7]) -> Answer {
     match row[DOES] {
-        LAY => laying::lay(G, image, index),
+        LAY => laying::lay(G, Version::Two, image, index),
+        LAY_3 => laying::lay(G, Version::Three, image, index),
         MOVE => moving::move_over(G, image, index, Pages(row[NUMBER])),
         OPEN => books::open(G, image, index),
-        GROW => books::grow(G, image, index, region(row), Pages(row[NUMBER])),
-        RELEASE => books::release(G, image, index, region(row)),
+        GROW => grow(image, index, row),
+        RELEASE => books::release(G, image, index, region(row), edition(row)),
         _ => Answer::Refused(ODD),
     }
 }
@@ -363,6 +411,7 @@ fn store(image: &mut [u8], index: &[u8], row: [u64; 7]) -> Answer {
         image,
         index,
         region(row),
+        edition(row),
         Offset(row[NUMBER]),
         &bytes[0..n],
     )
@@ -370,7 +419,15 @@ fn store(image: &mut [u8], index: &[u8], row: [u64; 7]) -> Answer {
 
 // A load answers the number that its bytes make.
 fn loaded(image: &[u8], index: &[u8], row: [u64; 7], buffer: &mut [u8]) -> Answer {
-    let a = contents::load(G, image, index, region(row), Offset(row[NUMBER]), buffer);
+    let a = contents::load(
+        G,
+        image,
+        index,
+        region(row),
+        edition(row),
+        Offset(row[NUMBER]),
+        buffer,
+    );
     let Answer::Done(_) = a else {
         return a;
     };
@@ -391,7 +448,7 @@ fn call(image: &mut [u8], index: &mut [u8], row: [u64; 7]) -> Answer {
         STORE => store(image, index, row),
         LOAD => load(image, index, row),
         RECOVER => recover(image, index, row),
-        SIZE => desk::size(G, image, region(row)),
+        SIZE => desk::size(G, image, region(row), edition(row)),
         _ => table_call(image, index, row),
     }
 }
@@ -406,6 +463,12 @@ fn answers(a: Answer, row: [u64; 7]) -> bool {
             }
             v == row[VALUE]
         }
+        Answer::Opened { region, edition } => {
+            if row[REFUSAL] != 0 {
+                return false;
+            }
+            book(region, edition) == row[VALUE]
+        }
         Answer::Refused(k) => {
             if row[VALUE] != 0 {
                 return false;
@@ -417,7 +480,14 @@ fn answers(a: Answer, row: [u64; 7]) -> bool {
 
 // A look hands back a part of that length, with those bytes.
 fn shows(image: &[u8], index: &[u8], row: [u64; 7]) -> bool {
-    let part = contents::look(G, image, index, region(row), Offset(row[NUMBER]));
+    let part = contents::look(
+        G,
+        image,
+        index,
+        region(row),
+        edition(row),
+        Offset(row[NUMBER]),
+    );
     if part.len() as u64 != row[LENGTH] {
         return false;
     }
@@ -568,6 +638,10 @@ fn case_20(image: &mut [u8], index: &mut [u8]) {
     walk(image, index, 20, &CASE_20);
 }
 
+fn case_21(image: &mut [u8], index: &mut [u8]) {
+    walk(image, index, 21, &CASE_21);
+}
+
 fn main() {
     let mut image = [0u8; 8704];
     let mut index = [0u8; 82];
@@ -582,4 +656,5 @@ fn main() {
     case_18(&mut image, &mut index);
     case_19(&mut image, &mut index);
     case_20(&mut image, &mut index);
+    case_21(&mut image, &mut index);
 }

@@ -28,21 +28,21 @@ same-spot e = cc
 same-number : {k j : ℕ} → No k ≡ No j → k ≡ j
 same-number e = cc
 
-module _ {g : Geometry} {image index : List ℕ} {r o n : ℕ} where
-  pub tells-no : {k : ℕ} → readNo g image index r o n ≡ k → k ≢ 0 → Told g image index r o n (No k)
-  tells-no e ne = record { accepted = λ s d. absurd (never (sym d)); refused = λ j d. rw (← same-number d) (e, ne) }
+module _ {g : Geometry} {image index : List ℕ} {r d o n : ℕ} where
+  pub tells-no : {k : ℕ} → readNo g image index r d o n ≡ k → k ≢ 0 → Told g image index r d o n (No k)
+  tells-no e ne = record { accepted = λ s z. absurd (never (sym z)); refused = λ j z. rw (← same-number z) (e, ne) }
 
-  pub tells-from : {s : Spot} → readNo g image index r o n ≡ 0 → IsSpot g o s → Told g image index r o n (From s)
-  tells-from e I = record { accepted = λ t d. rw (← same-spot d) (e, I); refused = λ j d. absurd (never d) }
+  pub tells-from : {s : Spot} → readNo g image index r d o n ≡ 0 → IsSpot g o s → Told g image index r d o n (From s)
+  tells-from e I = record { accepted = λ t z. rw (← same-spot z) (e, I); refused = λ j z. absurd (never z) }
 
   -- what the walks from the spot on ask
-  pub told-reads : {a : Reading} {s : Spot} → Told g image index r o n a → a ≡ From s → Reads g image index r (offsetOf g s) n × (s .within < blockBytes g)
+  pub told-reads : {a : Reading} {s : Spot} → Told g image index r d o n a → a ≡ From s → Reads g image index r (offsetOf g s) n × (s .within < blockBytes g)
   told-reads {s = s} T e =
       let F = T .accepted s e in
-      (rw (F .1 .offset) (read-accepted g image index r o n (F .0)), F .1 .inside)
+      (rw (F .1 .offset) (read-accepted g image index r d o n (F .0) .0), F .1 .inside)
 
   -- what a call with these checks leaves where they refuse
-  pub told-refused : {a : Reading} {k : ℕ} → Told g image index r o n a → a ≡ No k → (c : Call) → refusal g image index c ≡ readNo g image index r o n
+  pub told-refused : {a : Reading} {k : ℕ} → Told g image index r d o n a → a ≡ No k → (c : Call) → refusal g image index c ≡ readNo g image index r d o n
       → gives (Refused k) (buffer g c) (lent image index) ≡ outcome g c (lent image index)
   told-refused {k = k} T e c line =
       let F = T .refused k e in

@@ -10,6 +10,7 @@ ghost use Rattle.paper.specs.Outcomes.{lent, gives, outcome};
 ghost use Rattle.rules.specs.Facts.{Readable};
 ghost use Rattle.contents.specs.Reading.{Told};
 use paper::Answer;
+use paper::Edition;
 use paper::Geometry;
 use paper::Offset;
 use paper::Region;
@@ -42,22 +43,23 @@ fn beyond(g: Geometry, image: &[u8], region: Region, offset: Offset, n: usize) -
     bytes - offset.0 < n as u64
 }
 
-// 1 to 5, 8, 6, 9, 7 for n bytes at the offset. An offset in the book is turned here, once; whoever reads or writes goes on from its spot.
+// 1 to 5, 8, 18, 6, 9, 7 for n bytes at the offset. An offset in the book is turned here, once; whoever reads or writes goes on from its spot.
 fn read_from(
     g: Geometry,
     image: &[u8],
     index: &[u8],
     region: Region,
+    edition: Edition,
     offset: Offset,
     n: usize,
 ) -> Reading
-    ensures { λ a. ⌜ Told g (now (image .entry)) (now (index .entry)) (region .0) (offset .0) n a ⌝ }
+    ensures { λ a. ⌜ Told g (now (image .entry)) (now (index .entry)) (region .0) (edition .0) (offset .0) n a ⌝ }
 {
     let no = desk::entered(g, image, index);
     if no != 0 {
         return Reading::No(no);
     }
-    let no = desk::book_refusal(g, image, region);
+    let no = desk::book_refusal(g, image, region, edition);
     if no != 0 {
         return Reading::No(no);
     }
@@ -77,12 +79,13 @@ pub fn load(
     image: &[u8],
     index: &[u8],
     region: Region,
+    edition: Edition,
     offset: Offset,
     buffer: &mut [u8],
 ) -> Answer
-    ensures { λ r. ⌜ gives r (now (buffer .exit)) (lent (now (image .entry)) (now (index .entry))) ≡ outcome g (load (region .0) (offset .0) (now (buffer .entry))) (lent (now (image .entry)) (now (index .entry))) ⌝ }
+    ensures { λ r. ⌜ gives r (now (buffer .exit)) (lent (now (image .entry)) (now (index .entry))) ≡ outcome g (load (region .0) (edition .0) (offset .0) (now (buffer .entry))) (lent (now (image .entry)) (now (index .entry))) ⌝ }
 {
-    let reading = read_from(g, image, index, region, offset, buffer.len());
+    let reading = read_from(g, image, index, region, edition, offset, buffer.len());
     match reading {
         Reading::No(no) => Answer::Refused(no),
         Reading::From(spot) => {
@@ -98,12 +101,13 @@ pub fn store(
     image: &mut [u8],
     index: &[u8],
     region: Region,
+    edition: Edition,
     offset: Offset,
     bytes: &[u8],
 ) -> Answer
-    ensures { λ r. ⌜ gives r [] (lent (now (image .exit)) (now (index .entry))) ≡ outcome g (store (region .0) (offset .0) (now (bytes .entry))) (lent (now (image .entry)) (now (index .entry))) ⌝ }
+    ensures { λ r. ⌜ gives r [] (lent (now (image .exit)) (now (index .entry))) ≡ outcome g (store (region .0) (edition .0) (offset .0) (now (bytes .entry))) (lent (now (image .entry)) (now (index .entry))) ⌝ }
 {
-    let reading = read_from(g, image, index, region, offset, bytes.len());
+    let reading = read_from(g, image, index, region, edition, offset, bytes.len());
     match reading {
         Reading::No(no) => Answer::Refused(no),
         Reading::From(spot) => {
@@ -119,11 +123,12 @@ pub fn look<'a, 'b>(
     image: &'a [u8],
     index: &'b [u8],
     region: Region,
+    edition: Edition,
     offset: Offset,
 ) -> &'a [u8]
-    ensures { λ r. ⌜ now r ≡ outcome g (look (region .0) (offset .0)) (lent (now (image .entry)) (now (index .entry))) .bytes ⌝ }
+    ensures { λ r. ⌜ now r ≡ outcome g (look (region .0) (edition .0) (offset .0)) (lent (now (image .entry)) (now (index .entry))) .bytes ⌝ }
 {
-    let reading = read_from(g, image, index, region, offset, 1);
+    let reading = read_from(g, image, index, region, edition, offset, 1);
     let Reading::From(spot) = reading else {
         return &image[0..0];
     };

@@ -1,10 +1,11 @@
 // The refusals that calls share, each in its order, and the call that asks nothing else: size.
 ghost use mathlib.Core.Path.{_≡_};
 ghost use mathlib.Core.List.{[]};
-ghost use lib.Dec.{ltb};
+ghost use Prim.Native.Nat.{_<_};
+ghost use lib.Dec.{eqb, ltb};
 ghost use lib.ListN.{length};
 ghost use Rattle.paper.specs.Geometry.{capacity};
-ghost use Rattle.paper.specs.Image.{front, taken};
+ghost use Rattle.paper.specs.Image.{front, taken, editionOf};
 ghost use Rattle.paper.specs.Calls.{size};
 ghost use Rattle.paper.specs.Refusals.{usable};
 ghost use Rattle.paper.specs.Outcomes.{lent, gives, outcome};
@@ -12,6 +13,7 @@ ghost use Rattle.rules.specs.Facts.{Readable, Headed};
 ghost use Rattle.rules.specs.Lines.{headNo, wholeNo, bookNo, lentNo, indexedHeadNo, enteredNo};
 use paper::Answer;
 use paper::Block;
+use paper::Edition;
 use paper::Geometry;
 use paper::Region;
 
@@ -44,6 +46,8 @@ pub const NOT_BLANK: u8 = 12;
 pub const TOO_FEW_BLOCKS: u8 = 13;
 
 pub const NEWER: u8 = 16;
+
+pub const EDITION: u8 = 18;
 
 // ---- shared refusals: 0 where none applies
 
@@ -142,13 +146,25 @@ pub fn usable(g: Geometry, image: &[u8], region: Region) -> bool
     image::is_open(g, image, region)
 }
 
-// 8, and 6 for this book alone.
-pub fn book_refusal(g: Geometry, image: &[u8], region: Region) -> u8
+// The region's book is the one of that edition.
+pub fn is_edition(g: Geometry, image: &[u8], region: Region, edition: Edition) -> bool
     requires { ⌜ Readable g (now image) ⌝ }
-    ensures { λ k. ⌜ k ≡ bookNo g (now (image .entry)) (region .0) ⌝ }
+    requires { ⌜ region .0 < g .entries ⌝ }
+    ensures { λ t. ⌜ t ≡ eqb (editionOf g (front g (now (image .entry))) (region .0)) (edition .0) ⌝ }
+{
+    image::edition(g, image, region).0 == edition.0
+}
+
+// 8, 18, and 6 for this book alone.
+pub fn book_refusal(g: Geometry, image: &[u8], region: Region, edition: Edition) -> u8
+    requires { ⌜ Readable g (now image) ⌝ }
+    ensures { λ k. ⌜ k ≡ bookNo g (now (image .entry)) (region .0) (edition .0) ⌝ }
 {
     if !usable(g, image, region) {
         return REGION;
+    }
+    if !is_edition(g, image, region, edition) {
+        return EDITION;
     }
     if g.most_book_pages().0 < image::pages(g, image, region).0 {
         return TABLES;
@@ -158,14 +174,14 @@ pub fn book_refusal(g: Geometry, image: &[u8], region: Region) -> u8
 
 // ---- Size: answers the page count; takes no index
 
-pub fn size(g: Geometry, image: &[u8], region: Region) -> Answer
-    ensures { λ a. ⌜ gives a [] (lent (now (image .entry)) []) ≡ outcome g (size (region .0)) (lent (now (image .entry)) []) ⌝ }
+pub fn size(g: Geometry, image: &[u8], region: Region, edition: Edition) -> Answer
+    ensures { λ a. ⌜ gives a [] (lent (now (image .entry)) []) ≡ outcome g (size (region .0) (edition .0)) (lent (now (image .entry)) []) ⌝ }
 {
     let no = whole(g, image);
     if no != 0 {
         return Answer::Refused(no);
     }
-    let no = book_refusal(g, image, region);
+    let no = book_refusal(g, image, region, edition);
     if no != 0 {
         return Answer::Refused(no);
     }

@@ -1,26 +1,28 @@
 -- What a host sees of a call, from the call's own promise.
-use Prim.Native.Nat.{ℕ, _/_, _%_, _≤_, _<_}
+use Prim.Native.Nat.{ℕ, _+_, _*_, _/_, _%_, _≤_, _<_}
 use mathlib.Core.Logic.{_≢_}
-use mathlib.Core.Path.{_≡_, refl, sym, _∙_, ap}
+use mathlib.Core.Path.{_≡_, refl, sym, _∙_, ap, ap₂}
 use borrow.Author.Tests.{ne-eqb}
 use mathlib.Core.List.{List}
 use native.Mathlib.Omega.{arith}
 use native.Mathlib.Decide.{ℕ-discrete}
 use lib.Arith.{digits-div, digits-mod}
 use lib.IntN.{pos}
+use lib.ListN.{length}
 use Rattle.paper.specs.declared.Geometry.{Geometry}
 use Rattle.paper.specs.declared.Answer.{Answer}
-use Rattle.paper.specs.Geometry.{blockBytes, allowed, Allowed, mostBookPages}
-use Rattle.paper.specs.Image.{front, pagesOf}
-use Rattle.paper.specs.Calls.{Call, lay, «open», grow, load, store, look, size, release, recover}
+use Rattle.paper.specs.Geometry.{lastEdition, blockBytes, allowed, Allowed, capacity, mostBookPages}
+use Rattle.paper.specs.Image.{front, pagesOf, editionOf}
+use Rattle.paper.specs.Calls.{Call, lay, «open», grow, load, store, look, size, release, recover, nextRegion}
 use Rattle.paper.specs.Refusals.{refusal}
 use Rattle.paper.specs.Move.{moveRefusal, moveOutcome}
-use Rattle.paper.specs.Outcomes.{valueOf, State, gives, outcome}
+use Rattle.paper.specs.Outcomes.{valueOf, editionIn, State, gives, outcome}
 use Rattle.paper.proofs.Arithmetic.{book-pages-bound}
 use Rattle.rules.proofs.Outcomes.{outcome-number, outcome-paper}
-use Rattle.host.specs.Host.{noGeometry, geometryOf, valueEnd, inBits56, packed, HostSees, sees, hostSees}
+use Rattle.host.specs.Host.{noGeometry, geometryOf, valueEnd, regionEnd, hostValue, packed, HostSees, sees, hostSees}
 use Rattle.rules.proofs.Lines.{open-accepted, grow-accepted, size-accepted, refused-1, refused, move-done, move-refused, lay-done, open-done, grow-done, release-done, load-done, store-done, look-done, size-done, recover-done}
 use Rattle.rules.proofs.Usable.{usable-facts}
+use Rattle.keeping.proofs.Open.{open-next}
 
 -- the number is the answer's, the geometry is the one named, and the call kept its promise
 pub host-sees : {n : ℕ} {a : Answer} {bytes : List ℕ} {s : State} {g h : Geometry} (c : Call) (t : State)
@@ -52,40 +54,64 @@ module _ (g : Geometry) (s : State) where
   abbrev t : List ℕ
   t = front g (s .image)
 
+  abbrev seenValue : Call → ℕ
+  seenValue c = hostValue (outcome g c s .value) (outcome g c s .edition)
+
   pages-below : (r : ℕ) → Allowed g → pagesOf g t r ≤ mostBookPages g → pagesOf g t r < valueEnd
   pages-below r a h = omega (arith, book-pages-bound g a)
 
-  done-below : (c : Call) → refusal g (s .image) (s .index) c ≡ 0 → inBits56 (outcome g c s .value) < valueEnd
-  done-below lay e = rw (lay-done g s e) (omega arith)
-  done-below «open» e =
+  -- what open gives: a region of two bytes, and an edition of four
+  opened-below : refusal g (s .image) (s .index) «open» ≡ 0 → let r = nextRegion g (front g (s .image)) in (r < regionEnd) × (editionOf g (front g (s .image)) r < lastEdition)
+  opened-below e =
       let f = open-accepted g (s .image) (s .index) e in
-      rw (open-done g s e) (omega (arith, f .1, f .0 .geometry .entries-most))
-  done-below (grow r n) e =
-      let f = grow-accepted g (s .image) (s .index) r n e in
-      rw (grow-done g s r n e) (pages-below r (f .0 .geometry) (f .0 .formed .rules .fits r (usable-facts g t r (f .1) .2)))
-  done-below (load r o b) e = rw (load-done g s r o b e) (omega arith)
-  done-below (store r o b) e = rw (store-done g s r o b e) (omega arith)
-  done-below (look r o) e = rw (look-done g s r o e) (omega arith)
-  done-below (size r) e =
-      let f = size-accepted g (s .image) (s .index) r e in
-      rw (size-done g s r e) (pages-below r (f .0 .headed .readable .allowed) (f .2))
-  done-below (release r) e = rw (release-done g s r e) (omega arith)
+      let O = f .0 in (
+        omega (arith, f .1, O .geometry .entries-most),
+        open-next g (O .geometry) (capacity g (length (s .image))) t (O .formed) (f .1) .current,
+      )
+
+  done-below : (c : Call) → refusal g (s .image) (s .index) c ≡ 0 → seenValue c < valueEnd
+  done-below (lay v) e = rw (lay-done g s v e) (omega arith)
+  done-below «open» e = let f = opened-below e in rw (open-done g s e) (omega (arith, f .0, f .1))
+  done-below (grow r d n) e =
+      let f = grow-accepted g (s .image) (s .index) r d n e in
+      let h = pages-below r (f .0 .geometry) (f .0 .formed .rules .fits r (usable-facts g t r (f .1 .usable) .2)) in
+      rw (grow-done g s r d n e) (omega (arith, h))
+  done-below (load r d o b) e = rw (load-done g s r d o b e) (omega arith)
+  done-below (store r d o b) e = rw (store-done g s r d o b e) (omega arith)
+  done-below (look r d o) e = rw (look-done g s r d o e) (omega arith)
+  done-below (size r d) e =
+      let f = size-accepted g (s .image) (s .index) r d e in
+      let h = pages-below r (f .0 .headed .readable .allowed) (f .2) in
+      rw (size-done g s r d e) (omega (arith, h))
+  done-below (release r d) e = rw (release-done g s r d e) (omega arith)
   done-below recover e = rw (recover-done g s e) (omega arith)
 
-  pub value-below : (c : Call) → inBits56 (outcome g c s .value) < valueEnd
+  pub value-below : (c : Call) → hostValue (outcome g c s .value) (outcome g c s .edition) < valueEnd
   value-below c = go (ℕ-discrete (refusal g (s .image) (s .index) c) 0)
     where
-      go : Dec (refusal g (s .image) (s .index) c ≡ 0) → inBits56 (outcome g c s .value) < valueEnd
+      go : Dec (refusal g (s .image) (s .index) c ≡ 0) → hostValue (outcome g c s .value) (outcome g c s .edition) < valueEnd
       go (yes e) = done-below c e
       go (no ne) = rw (refused g c s (refusal g (s .image) (s .index) c) refl ne) (omega arith)
 
   -- as a host takes the number apart
   pub number-apart : (c : Call) → let o = outcome g c s in
-      (packed (o .answer) / valueEnd ≡ o .number) × (packed (o .answer) % valueEnd ≡ inBits56 (o .value))
+      (packed (o .answer) / valueEnd ≡ o .number) × (packed (o .answer) % valueEnd ≡ hostValue (o .value) (o .edition))
   number-apart c =
+      let o = outcome g c s in
       let p = outcome-paper g c s in
-      let l : inBits56 (valueOf (outcome g c s .answer)) < valueEnd = rw (p .1) at (value-below c) in
-      (digits-div _ l ∙ sym (p .0), digits-mod _ l ∙ ap inBits56 (sym (p .1)))
+      let same : hostValue (o .value) (o .edition) ≡ hostValue (valueOf (o .answer)) (editionIn (o .answer)) = ap₂ hostValue (p .value) (p .edition) in
+      let l : hostValue (valueOf (o .answer)) (editionIn (o .answer)) < valueEnd = rw same at (value-below c) in
+      (digits-div _ l ∙ sym (p .number), digits-mod _ l ∙ sym same)
+
+  -- and open's value: region and edition
+  pub opened-apart : refusal g (s .image) (s .index) «open» ≡ 0 → let o = outcome g «open» s in
+      (pos (hostValue (o .value) (o .edition) % regionEnd) ≡ o .value) × (hostValue (o .value) (o .edition) / regionEnd ≡ o .edition)
+  opened-apart e =
+      let f = opened-below e in
+      let r = nextRegion g t in
+      let d = editionOf g t r in
+      let swap : r + d * regionEnd ≡ d * regionEnd + r = omega arith in
+      rw (open-done g s e, swap) (ap pos (digits-mod d (f .0)), digits-div d (f .0))
 
 -- ---- a number that names no geometry is refused with 1, whatever the call
 pub other-number : (n : ℕ) → n ≢ 0 → n ≢ 1 → (c : Call) (s : State) → outcome (geometryOf n) c s .number ≡ 1

@@ -7,7 +7,7 @@ use lib.IntN.{ℤ, pos, negsuc}
 use Rattle.paper.specs.declared.Geometry.{Geometry}
 use Rattle.paper.specs.declared.Answer.{Answer}
 use Rattle.paper.specs.Geometry.{bench, house}
-use Rattle.paper.specs.Outcomes.{numberOf, valueOf, State, Outcome}
+use Rattle.paper.specs.Outcomes.{numberOf, valueOf, editionIn, State, Outcome}
 
 -- no geometry: refused with 1
 abbrev pub noGeometry : Geometry
@@ -26,9 +26,16 @@ abbrev pub inBits56 : ℤ → ℕ
 inBits56 (pos v) = v
 inBits56 (negsuc m) = valueEnd - 1 - m
 
+-- a region has 16 of them; the edition that open gives with it stands above (02, R-12)
+abbrev pub regionEnd : ℕ
+regionEnd = 2 ^ 16
+
+abbrev pub hostValue : ℤ → ℕ → ℕ
+hostValue v e = inBits56 v + e * regionEnd
+
 -- refusal × 2^56 + value
 abbrev pub packed : Answer → ℕ
-packed a = numberOf a * valueEnd + inBits56 (valueOf a)
+packed a = numberOf a * valueEnd + hostValue (valueOf a) (editionIn a)
 
 -- all that a host sees of a call: its number, the buffer, and what is left in image and index
 pub record HostSees : Type 0 where

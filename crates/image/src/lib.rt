@@ -1,16 +1,18 @@
 // The stored image: header and tables read and written, and the rules a to e checked. Nothing above this crate knows an offset of them.
 ghost use mathlib.Core.Path.{_≡_};
 ghost use Prim.Native.Nat.{_%_, _^_, _<_, _≤_};
-ghost use mathlib.Core.Bool.{not, _&&_};
+ghost use mathlib.Core.Bool.{not, _&&_, _||_};
 ghost use lib.Dec.{eqb};
 ghost use Rattle.laws.specs.Folds.{allBelow, allFrom};
-ghost use Rattle.paper.specs.Geometry.{fixedRegions, reclaimed, noRegion};
-ghost use Rattle.paper.specs.Image.{front, stamp, taken, counter, owner, place, names, pagesOf, isOpen, needOf, setTaken, setCounter, setEntry, setPages, setNotOpen};
-ghost use Rattle.paper.specs.WellFormed.{ruleA, fits, ruleB, ruleC, named, ruleE};
+ghost use Rattle.paper.specs.Geometry.{version2, version3, sizeBytes, allOnes, lastEdition, fixedRegions, reclaimed, noRegion};
+ghost use Rattle.paper.specs.Image.{decoded, sizeWidth, front, versionOf, stamped, taken, counter, owner, place, names, sizeOf, pagesOf, editionOf, isOpen, needOf, setTaken, setCounter, setEntry, setPages, setNotOpen};
+ghost use Rattle.paper.specs.WellFormed.{current, ruleA, fits, ruleB, ruleC, named, ruleE};
 ghost use Rattle.paper.specs.Refusals.{headerRight, unusedBlank};
 ghost use Rattle.rules.specs.Facts.{Readable, fronted};
 ghost use Rattle.rules.specs.Given.{High, given};
+ghost use Rattle.image.specs.Entries.{fixed, fresh, releasedEntry};
 use paper::Block;
+use paper::Edition;
 use paper::Geometry;
 use paper::Pages;
 use paper::Position;
@@ -48,6 +50,30 @@ pub fn place(g: Geometry, image: &[u8], b: Block) -> Position
     Position(numbers::read_u16(image, g.entry_at(b) + 2) as usize)
 }
 
+// Version 3 keeps the low half of a region's entry for the pages, and the high half for the edition.
+fn is_version_3(g: Geometry, image: &[u8]) -> bool
+    requires { ⌜ Readable g (now image) ⌝ }
+    ensures { λ t. ⌜ t ≡ eqb (versionOf g (front g (now (image .entry)))) version3 ⌝ }
+{
+    numbers::read_u32(image, paper::VERSION_AT) == paper::VERSION_3
+}
+
+// What an entry says of its book, as eight bytes say it: the pages, or all ones for "not open".
+fn size_in(g: Geometry, image: &[u8], r: Region) -> u64
+    requires { ⌜ Readable g (now image) ⌝ }
+    requires { ⌜ r .0 < g .entries ⌝ }
+    ensures { λ n. ⌜ sizeOf g (front g (now (image .entry))) (r .0) ≡ decoded sizeBytes n ⌝ }
+{
+    if !is_version_3(g, image) {
+        return numbers::read_u64(image, g.size_at(r));
+    }
+    let n = numbers::read_u32(image, g.size_at(r));
+    if n == paper::LOW_ONES {
+        return paper::ALL_ONES;
+    }
+    n as u64
+}
+
 pub fn is_open(g: Geometry, image: &[u8], r: Region) -> bool
     requires { ⌜ Readable g (now image) ⌝ }
     ensures { λ t. ⌜ t ≡ isOpen g (front g (now (image .entry))) (r .0) ⌝ }
@@ -55,7 +81,7 @@ pub fn is_open(g: Geometry, image: &[u8], r: Region) -> bool
     if g.entries <= r.0 as usize {
         return false;
     }
-    numbers::read_u64(image, g.size_at(r)) != paper::ALL_ONES
+    size_in(g, image, r) != paper::ALL_ONES
 }
 
 // The pages of the book, 0 where the region is not open.
@@ -64,11 +90,23 @@ pub fn pages(g: Geometry, image: &[u8], r: Region) -> Pages
     requires { ⌜ r .0 < g .entries ⌝ }
     ensures { λ n. ⌜ n .0 ≡ pagesOf g (front g (now (image .entry))) (r .0) ⌝ }
 {
-    let n = numbers::read_u64(image, g.size_at(r));
+    let n = size_in(g, image, r);
     if n == paper::ALL_ONES {
         return Pages(0);
     }
     Pages(n)
+}
+
+// The edition of the region's book, or of its next one where the region is not open. Version 2 has edition 0 only.
+pub fn edition(g: Geometry, image: &[u8], r: Region) -> Edition
+    requires { ⌜ Readable g (now image) ⌝ }
+    requires { ⌜ r .0 < g .entries ⌝ }
+    ensures { λ e. ⌜ e .0 ≡ editionOf g (front g (now (image .entry))) (r .0) ⌝ }
+{
+    if !is_version_3(g, image) {
+        return Edition(0);
+    }
+    Edition(numbers::read_u32(image, g.size_at(r) + 4))
 }
 
 // The blocks that the book needs, 0 where the region is not open. Many open books have no pages, here and there among the others: whether they have
@@ -80,7 +118,7 @@ pub fn need(g: Geometry, image: &[u8], r: Region) -> u64
     if g.entries <= r.0 as usize {
         return 0;
     }
-    let n = numbers::read_u64(image, g.size_at(r));
+    let n = size_in(g, image, r);
     if n == paper::ALL_ONES {
         return 0;
     }
@@ -128,33 +166,62 @@ pub fn set_entry(g: Geometry, image: &mut [u8], b: Block, r: Region, p: Position
     numbers::write_u16(image, at + 2, p.0 as u16);
 }
 
+// The edition stays. All ones would say "not open".
 pub fn set_pages(g: Geometry, image: &mut [u8], r: Region, n: Pages)
     requires { ⌜ Readable g (now image) ⌝ }
-    requires { ⌜ r .0 < g .entries ⌝ }
+    requires { ⌜ (r .0 < g .entries) × (n .0 < 4294967295) ⌝ }
     ensures { λ _. ⌜ now (image .exit) ≡ fronted g (setPages g (r .0) (n .0) (front g (now (image .entry)))) (now (image .entry)) ⌝ }
 {
-    numbers::write_u64(image, g.size_at(r), n.0);
+    if is_version_3(g, image) {
+        numbers::write_u32(image, g.size_at(r), n.0 as u32);
+    } else {
+        numbers::write_u64(image, g.size_at(r), n.0);
+    }
 }
 
+// The whole entry of a region whose book is released: not open, and in version 3 the next edition.
+fn released_entry(g: Geometry, image: &[u8], r: Region) -> u64
+    requires { ⌜ Readable g (now image) ⌝ }
+    requires { ⌜ (r .0 < g .entries) × (editionOf g (front g (now image)) (r .0) < lastEdition) ⌝ }
+    ensures { λ n. ⌜ n ≡ releasedEntry g (front g (now (image .entry))) (r .0) ⌝ }
+{
+    if !is_version_3(g, image) {
+        return paper::ALL_ONES;
+    }
+    let next = edition(g, image, r).0 as u64 + 1;
+    next * 4294967296 + paper::LOW_ONES as u64
+}
+
+// Both halves by one write: between them the book would be closed and its edition still the old one.
 pub fn set_not_open(g: Geometry, image: &mut [u8], r: Region)
     requires { ⌜ Readable g (now image) ⌝ }
-    requires { ⌜ r .0 < g .entries ⌝ }
+    requires { ⌜ (r .0 < g .entries) × (editionOf g (front g (now image)) (r .0) < lastEdition) ⌝ }
     ensures { λ _. ⌜ now (image .exit) ≡ fronted g (setNotOpen g (r .0) (front g (now (image .entry)))) (now (image .entry)) ⌝ }
 {
-    numbers::write_u64(image, g.size_at(r), paper::ALL_ONES);
+    let entry = released_entry(g, image, r);
+    numbers::write_u64(image, g.size_at(r), entry);
 }
 
 // ---- the header checked
 
-// Whether marker, version and the last four bytes are right, so that the front has a stamp.
+fn is_version(v: u32) -> bool
+    ensures { λ t. ⌜ t ≡ (eqb v version2 || eqb v version3) ⌝ }
+{
+    if v == paper::VERSION_2 {
+        return true;
+    }
+    v == paper::VERSION_3
+}
+
+// Marker, version and the last four bytes are right.
 fn stamped(g: Geometry, image: &[u8]) -> bool
     requires { ⌜ Readable g (now image) ⌝ }
-    ensures { λ t. ⌜ t ≡ not (eqb (stamp g (front g (now (image .entry)))) 0) ⌝ }
+    ensures { λ t. ⌜ t ≡ stamped g (front g (now (image .entry))) ⌝ }
 {
     if numbers::read_u32(image, paper::MARKER_AT) != 0 {
         return false;
     }
-    if numbers::read_u32(image, paper::VERSION_AT) != paper::VERSION {
+    if !is_version(numbers::read_u32(image, paper::VERSION_AT)) {
         return false;
     }
     numbers::read_u32(image, paper::BLANK_AT) == 0
@@ -189,25 +256,78 @@ pub fn unused_blank(g: Geometry, image: &[u8]) -> bool
 
 // ---- the rules a to e checked
 
-fn low_open(g: Geometry, image: &[u8]) -> bool
+// A region that no book of a caller's has: open, and of edition 0.
+fn is_fixed(g: Geometry, image: &[u8], r: Region) -> bool
     requires { ⌜ Readable g (now image) ⌝ }
-    ensures { λ t. ⌜ t ≡ allBelow fixedRegions (isOpen g (front g (now (image .entry)))) ⌝ }
+    requires { ⌜ r .0 < g .entries ⌝ }
+    ensures { λ t. ⌜ t ≡ fixed g (front g (now (image .entry))) (r .0) ⌝ }
+{
+    if !is_open(g, image, r) {
+        return false;
+    }
+    edition(g, image, r).0 == 0
+}
+
+fn low_fixed(g: Geometry, image: &[u8]) -> bool
+    requires { ⌜ Readable g (now image) ⌝ }
+    ensures { λ t. ⌜ t ≡ allBelow fixedRegions (fixed g (front g (now (image .entry)))) ⌝ }
 {
     for r in 0..paper::FIXED_REGIONS {
-        if !is_open(g, image, Region(r)) {
+        if !is_fixed(g, image, Region(r)) {
             return false;
         }
     }
     true
 }
 
-fn high_not_open(g: Geometry, image: &[u8]) -> bool
+// The whole entry of a region that was never given out: not open, and of edition 0.
+fn fresh_entry(g: Geometry, image: &[u8]) -> u64
     requires { ⌜ Readable g (now image) ⌝ }
-    ensures { λ t. ⌜ t ≡ allFrom (counter g (front g (now (image .entry)))) (g .entries) (λ r. not (isOpen g (front g (now (image .entry))) r)) ⌝ }
+    ensures { λ n. ⌜ n ≡ allOnes (sizeWidth (versionOf g (front g (now (image .entry))))) ⌝ }
 {
+    if is_version_3(g, image) {
+        return paper::LOW_ONES as u64;
+    }
+    paper::ALL_ONES
+}
+
+// Both sentences about the regions from C on, by one look at each entry.
+fn high_fresh(g: Geometry, image: &[u8]) -> bool
+    requires { ⌜ Readable g (now image) ⌝ }
+    ensures { λ t. ⌜ t ≡ allFrom (counter g (front g (now (image .entry)))) (g .entries) (fresh g (front g (now (image .entry)))) ⌝ }
+{
+    let entry = fresh_entry(g, image);
     let c = counter(g, image).0 as usize;
     for r in c..g.entries {
-        if is_open(g, image, Region(r as u32)) {
+        if numbers::read_u64(image, g.size_at(Region(r as u32))) != entry {
+            return false;
+        }
+    }
+    true
+}
+
+fn is_current(g: Geometry, image: &[u8], r: Region) -> bool
+    requires { ⌜ Readable g (now image) ⌝ }
+    requires { ⌜ r .0 < g .entries ⌝ }
+    ensures { λ t. ⌜ t ≡ current g (front g (now (image .entry))) (r .0) ⌝ }
+{
+    if edition(g, image, r).0 < paper::LAST_EDITION.0 {
+        return true;
+    }
+    !is_open(g, image, r)
+}
+
+// Version 2 has no edition to ask for, nor has a region that is not open.
+fn all_current(g: Geometry, image: &[u8]) -> bool
+    requires { ⌜ Readable g (now image) ⌝ }
+    requires { ⌜ High g (front g (now image)) ⌝ }
+    ensures { λ t. ⌜ t ≡ allBelow (g .entries) (current g (front g (now (image .entry)))) ⌝ }
+{
+    if !is_version_3(g, image) {
+        return true;
+    }
+    for r in 0..given_out(g, image).0 {
+        if !is_current(g, image, Region(r)) {
             return false;
         }
     }
@@ -218,10 +338,13 @@ pub fn rule_a(g: Geometry, image: &[u8]) -> bool
     requires { ⌜ Readable g (now image) ⌝ }
     ensures { λ t. ⌜ t ≡ ruleA g (front g (now (image .entry))) ⌝ }
 {
-    if !low_open(g, image) {
+    if !low_fixed(g, image) {
         return false;
     }
-    high_not_open(g, image)
+    if !high_fresh(g, image) {
+        return false;
+    }
+    all_current(g, image)
 }
 
 // Region 1's pages fill its blocks.

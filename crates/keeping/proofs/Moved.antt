@@ -12,6 +12,7 @@ use lib.ListN.{take, getD, length}
 use lib.Seq.{getD-take, getD-drop, ext-getD, length-take-le}
 use Rattle.laws.proofs.Lists.{length-splice, splice-before, splice-in}
 use Rattle.paper.specs.declared.Geometry.{Geometry}
+use Rattle.paper.specs.declared.Version.the-variants.{Two}
 use Rattle.paper.specs.declared.Answer.the-variants.{Done}
 use Rattle.paper.specs.Geometry.{anonymous, blockBytes, Allowed, capacity, need, frontBytes, dataAt}
 use Rattle.paper.specs.Image.{front, dataOf, blanked, taken, pagesOf, blockOf}
@@ -35,7 +36,7 @@ module _ (g : Geometry) (n : ℕ) (image index : List ℕ) (M : Movable g n imag
   k = need g n
 
   abbrev u : List ℕ
-  u = movedFront g n
+  u = movedFront g Two n
 
   abbrev copied : List ℕ
   copied = movedData g n image
@@ -85,9 +86,9 @@ module _ (g : Geometry) (n : ℕ) (image index : List ℕ) (M : Movable g n imag
   blank-long = length-blanked g A copied long ∙ data-long
 
   full : length u ≡ frontBytes g
-  full = moved-full g A n (M .most)
+  full = moved-full g A Two n (M .most)
 
-  pub moved-front : front g (movedImage g n image) ≡ movedFront g n
+  pub moved-front : front g (movedImage g n image) ≡ movedFront g Two n
   moved-front = front-joined g u (blanked g copied) full
 
   pub moved-length : length (movedImage g n image) ≡ length image
@@ -104,11 +105,11 @@ module _ (g : Geometry) (n : ℕ) (image index : List ℕ) (M : Movable g n imag
   moved-data : dataOf g (movedImage g n image) ≡ dataOf g copied
   moved-data = dataOf-joined g A (blanked g copied) blanked-long u full ∙ data-blanked g A copied long
 
-  pub moved-ordered : Ordered g (movedImage g n image) (indexOf g (movedFront g n))
+  pub moved-ordered : Ordered g (movedImage g n image) (indexOf g (movedFront g Two n))
   moved-ordered = record {
     geometry = A;
     long = omega (arith, moved-length, M .readable .long);
-    formed = rw (moved-front, moved-length) (moved-formed g A n (M .most) (capacity g (length image)) move-room);
+    formed = rw (moved-front, moved-length) (moved-formed g A Two n (M .most) (capacity g (length image)) move-room);
     recovered = rw moved-front;
   }
 
@@ -123,7 +124,7 @@ module _ (g : Geometry) (n : ℕ) (image index : List ℕ) (M : Movable g n imag
         )
 
     pub moved-left : (written : List ℕ) → written ≡ indexOf g (front g later)
-        → gives (Done 0) [] (lent later written) ≡ gives (Done 0) [] (lent (movedImage g n image) (indexOf g (movedFront g n)))
+        → gives (Done 0) [] (lent later written) ≡ gives (Done 0) [] (lent (movedImage g n image) (indexOf g (movedFront g Two n)))
     moved-left written d = rw (d, e, moved-front)
 
   -- ---- its bytes
@@ -141,24 +142,24 @@ module _ (g : Geometry) (n : ℕ) (image index : List ℕ) (M : Movable g n imag
       past b = byte-past (dataAt g b + j) (omega (arith, block-after g b))
 
       go : Dec (p ≡ 0) → getD (movedImage g n image) (dataAt g (blockOf g u anonymous p) + j) 0 ≡ getD image (p * blockBytes g + j) 0
-      go (yes e) = rw (e, moved-first g A n (M .most) ne, zero-mul (blockBytes g), zero-add j) (past (k - 1) ∙ data-last ne j l)
+      go (yes e) = rw (e, moved-first g A Two n (M .most) ne, zero-mul (blockBytes g), zero-add j) (past (k - 1) ∙ data-last ne j l)
       go (no d) =
           let w : p - 1 + 1 ≡ p = omega arith in
           let q : dataAt g (p - 1) ≡ p * blockBytes g = rw w in
           let m : (p + 1) * blockBytes g ≤ k * blockBytes g = mul-le-mul-right (blockBytes g) (omega arith) in
           let i : p * blockBytes g + j < k * blockBytes g = omega (arith, m, add-mul p 1 (blockBytes g), one-mul (blockBytes g)) in
-          rw (moved-next g A n (M .most) p d h) (past (p - 1) ∙ rw q (data-before ne (p * blockBytes g + j) i))
+          rw (moved-next g A Two n (M .most) p d h) (past (p - 1) ∙ rw q (data-before ne (p * blockBytes g + j) i))
 
   -- region 0 reads byte for byte as the old memory did
-  pub moved-book : bookIn g (movedFront g n) (movedImage g n image) anonymous ≡ take (n * g .page) image
+  pub moved-book : bookIn g (movedFront g Two n) (movedImage g n image) anonymous ≡ take (n * g .page) image
   moved-book =
       let spans = book-spans g A n in
       let l = length-take-le (n * g .page) image (omega (arith, spans, enough, add-mul k 1 (blockBytes g), one-mul (blockBytes g))) in
       ext-getD 0 (bookIn g u (movedImage g n image) anonymous) (take (n * g .page) image)
-      (length-loaded g (blockOf g u anonymous) 0 (pagesOf g u anonymous * g .page) (movedImage g n image) ∙ rw (moved-size g A n (M .most)) (sym l))
+      (length-loaded g (blockOf g u anonymous) 0 (pagesOf g u anonymous * g .page) (movedImage g n image) ∙ rw (moved-size g A Two n (M .most)) (sym l))
       (λ i h.
       let b : i < pagesOf g u anonymous * g .page = rw length-loaded at h in
-      let c : i < n * g .page = rw (moved-size g A n (M .most)) at b in
+      let c : i < n * g .page = rw (moved-size g A Two n (M .most)) at b in
       getD-whole g (blockOf g u anonymous) (pagesOf g u anonymous * g .page) (movedImage g n image) i b
       ∙ each i c (ℕ-discrete k 0) spans
       ∙ sym (getD-take (n * g .page) image i 0 c))

@@ -145,17 +145,17 @@ module _ (g : Geometry) (x index : List ℕ) where
       let W = open-next g (O .geometry) (capacity g (length x)) t (O .formed) (a .1) in
       (O .long, around-joined g (O .geometry) (opened g t) (W .formed .full))
 
-  release-around : (r : ℕ) → refusal g x index (release r) ≡ 0 → (blockBytes g ≤ length x) × Around g (λ y. released g r (front g x) ++ rest g y)
-  release-around r e =
-      let a = release-accepted g x index r e in
+  release-around : (r d : ℕ) → refusal g x index (release r d) ≡ 0 → (blockBytes g ≤ length x) × Around g (λ y. released g r (front g x) ++ rest g y)
+  release-around r d e =
+      let a = release-accepted g x index r d e in
       let O = a .0 in
-      let W = released-as g (O .geometry) (capacity g (length x)) t (O .formed) r (usable-facts g t r (a .1) .2) (a .2) in
+      let W = released-as g (O .geometry) (capacity g (length x)) t (O .formed) r (usable-facts g t r (a .1 .usable) .2) (a .2) in
       (O .long, around-joined g (O .geometry) (released g r t) (W .formed .full))
 
-  store-around : (r o : ℕ) (ys : List ℕ) → refusal g x index (store r o ys) ≡ 0
+  store-around : (r d o : ℕ) (ys : List ℕ) → refusal g x index (store r d o ys) ≡ 0
       → (blockBytes g ≤ length x) × Around g (stored g (blockIn g index r) (needOf g (front g x) r) o ys)
-  store-around r o ys e =
-      let E = store-accepted g x index r o ys e .entered in
+  store-around r d o ys e =
+      let E = store-accepted g x index r d o ys e .0 .entered in
       (E .long, around-beyond g (E .geometry) (stored g (blockIn g index r) (needOf g t r) o ys) (stored-beyond g (blockIn g index r) (needOf g t r) o ys))
 
   -- `grown`, of any image by the tables t
@@ -164,11 +164,11 @@ module _ (g : Geometry) (x index : List ℕ) where
       let u = grownFront g r n t in
       cond (eqb n 0) y (stored g (blockOf g u r) (needOf g u r) (pagesOf g t r * g .page) (replicate (n * g .page) 0) (u ++ rest g y))
 
-  grow-around : (r n : ℕ) → refusal g x index (grow r n) ≡ 0 → (blockBytes g ≤ length x) × Around g (grownBy r n (front g x))
-  grow-around r n e =
-      let a = grow-accepted g x index r n e in
+  grow-around : (r d n : ℕ) → refusal g x index (grow r d n) ≡ 0 → (blockBytes g ≤ length x) × Around g (grownBy r n (front g x))
+  grow-around r d n e =
+      let a = grow-accepted g x index r d n e in
       let O = a .0 in
-      let f = usable-facts g t r (a .1) in
+      let f = usable-facts g t r (a .1 .usable) in
       let u = grownFront g r n t in
       let W = grownFront-to g (O .geometry) (capacity g (length x)) (capacity-blocks g (length x)) r (f .0) t (O .formed) (f .2) n (a .2) in
       let zeroed = stored g (blockOf g u r) (needOf g u r) (pagesOf g t r * g .page) (replicate (n * g .page) 0) in
@@ -180,15 +180,15 @@ module _ (g : Geometry) (x index : List ℕ) where
 module _ (g : Geometry) (s : State) where
   accepted-stays : (c : Call) → blanks c ≡ false → refusal g (s .image) (s .index) c ≡ 0 → unused g (outcome g c s .state .image) ≡ unused g (s .image)
   unfolding grown
-  accepted-stays lay ne e = clash true refl ne
+  accepted-stays (lay v) ne e = clash true refl ne
   accepted-stays «open» ne e = let a = open-around g (s .image) (s .index) e in rw (open-done g s e) (a .1 .stays (s .image) (a .0))
-  accepted-stays (grow r n) ne e = let a = grow-around g (s .image) (s .index) r n e in rw (grow-done g s r n e) (a .1 .stays (s .image) (a .0))
-  accepted-stays (load r o b) ne e = rw (load-done g s r o b e)
-  accepted-stays (store r o ys) ne e =
-      let a = store-around g (s .image) (s .index) r o ys e in rw (store-done g s r o ys e) (a .1 .stays (s .image) (a .0))
-  accepted-stays (look r o) ne e = rw (look-done g s r o e)
-  accepted-stays (size r) ne e = rw (size-done g s r e)
-  accepted-stays (release r) ne e = let a = release-around g (s .image) (s .index) r e in rw (release-done g s r e) (a .1 .stays (s .image) (a .0))
+  accepted-stays (grow r c n) ne e = let a = grow-around g (s .image) (s .index) r c n e in rw (grow-done g s r c n e) (a .1 .stays (s .image) (a .0))
+  accepted-stays (load r c o b) ne e = rw (load-done g s r c o b e)
+  accepted-stays (store r c o ys) ne e =
+      let a = store-around g (s .image) (s .index) r c o ys e in rw (store-done g s r c o ys e) (a .1 .stays (s .image) (a .0))
+  accepted-stays (look r c o) ne e = rw (look-done g s r c o e)
+  accepted-stays (size r c) ne e = rw (size-done g s r c e)
+  accepted-stays (release r c) ne e = let a = release-around g (s .image) (s .index) r c e in rw (release-done g s r c e) (a .1 .stays (s .image) (a .0))
   accepted-stays recover ne e = rw (recover-done g s e)
 
   pub unused-kept : (c : Call) → blanks c ≡ false → unused g (outcome g c s .state .image) ≡ unused g (s .image)
@@ -211,9 +211,9 @@ module _ (g : Geometry) (x y index : List ℕ) (a : Alike g x y) where
           let e : blockBytes g + (i - blockBytes g) ≡ i = omega arith in
           rw e at (sym (getD-drop (blockBytes g) x (i - blockBytes g) 0) ∙ ap (λ xs. getD xs (i - blockBytes g) 0) (a .blocks) ∙ getD-drop (blockBytes g) y (i - blockBytes g) 0)
 
-  read-alike : (r o : ℕ) → readNo g x index r o 1 ≡ readNo g y index r o 1
-  read-alike r o =
-      sym (load-number g x index r o (0 ∷ [])) ∙ sym (load-same g x y index r o (0 ∷ []) (a .lengths) (a .fronts)) ∙ load-number g y index r o (0 ∷ [])
+  read-alike : (r c o : ℕ) → readNo g x index r c o 1 ≡ readNo g y index r c o 1
+  read-alike r c o =
+      sym (load-number g x index r c o (0 ∷ [])) ∙ sym (load-same g x y index r c o (0 ∷ []) (a .lengths) (a .fronts)) ∙ load-number g y index r c o (0 ∷ [])
 
   abbrev s : State
   s = lent x index
@@ -223,29 +223,29 @@ module _ (g : Geometry) (x y index : List ℕ) (a : Alike g x y) where
 
   accepted-alike : (c : Call) → inspects c ≡ false → refusal g x index c ≡ 0 → refusal g y index c ≡ 0 → SeenAlike g (outcome g c s) (outcome g c s′)
   unfolding grown
-  accepted-alike lay ne e d =
-      rw (lay-done g s e, lay-done g s′ d, a .fronts, a .blocks)
+  accepted-alike (lay v) ne e d =
+      rw (lay-done g s v e, lay-done g s′ v d, a .fronts, a .blocks)
       (record { answer = refl; bytes = refl; image = record { fronts = refl; blocks = refl; lengths = refl }; index = refl })
   accepted-alike «open» ne e d =
       let w = open-around g x index e in
       rw (open-done g s e, open-done g s′ d, ← a .fronts) (record { answer = refl; bytes = refl; image = w .1 .alike x y (w .0) a; index = refl })
-  accepted-alike (grow r n) ne e d =
-      let w = grow-around g x index r n e in
+  accepted-alike (grow r c n) ne e d =
+      let w = grow-around g x index r c n e in
       let k = w .1 .alike x y (w .0) a in
-      rw (grow-done g s r n e, grow-done g s′ r n d, ← a .fronts) (record { answer = refl; bytes = refl; image = k; index = ap (indexOf g) (k .fronts) })
-  accepted-alike (load r o b) ne e d =
-      rw (load-done g s r o b e, load-done g s′ r o b d) (record { answer = refl; bytes = loaded-alike (blockIn g index r) o (length b); image = a; index = refl })
-  accepted-alike (store r o ys) ne e d =
-      let w = store-around g x index r o ys e in
-      rw (store-done g s r o ys e, store-done g s′ r o ys d, ← a .fronts) (record { answer = refl; bytes = refl; image = w .1 .alike x y (w .0) a; index = refl })
-  accepted-alike (look r o) ne e d =
-      rw (look-done g s r o e, look-done g s′ r o d, ← a .fronts, ← read-alike r o, ← loaded-alike (blockIn g index r) o (lookBytes g (front g x) r o))
+      rw (grow-done g s r c n e, grow-done g s′ r c n d, ← a .fronts) (record { answer = refl; bytes = refl; image = k; index = ap (indexOf g) (k .fronts) })
+  accepted-alike (load r c o b) ne e d =
+      rw (load-done g s r c o b e, load-done g s′ r c o b d) (record { answer = refl; bytes = loaded-alike (blockIn g index r) o (length b); image = a; index = refl })
+  accepted-alike (store r c o ys) ne e d =
+      let w = store-around g x index r c o ys e in
+      rw (store-done g s r c o ys e, store-done g s′ r c o ys d, ← a .fronts) (record { answer = refl; bytes = refl; image = w .1 .alike x y (w .0) a; index = refl })
+  accepted-alike (look r c o) ne e d =
+      rw (look-done g s r c o e, look-done g s′ r c o d, ← a .fronts, ← read-alike r c o, ← loaded-alike (blockIn g index r) o (lookBytes g (front g x) r o))
       (record { answer = refl; bytes = refl; image = a; index = refl })
-  accepted-alike (size r) ne e d =
-      rw (size-done g s r e, size-done g s′ r d) (record { answer = rw (a .fronts); bytes = refl; image = a; index = refl })
-  accepted-alike (release r) ne e d =
-      let w = release-around g x index r e in
-      rw (release-done g s r e, release-done g s′ r d, ← a .fronts) (record { answer = refl; bytes = refl; image = w .1 .alike x y (w .0) a; index = refl })
+  accepted-alike (size r c) ne e d =
+      rw (size-done g s r c e, size-done g s′ r c d) (record { answer = rw (a .fronts); bytes = refl; image = a; index = refl })
+  accepted-alike (release r c) ne e d =
+      let w = release-around g x index r c e in
+      rw (release-done g s r c e, release-done g s′ r c d, ← a .fronts) (record { answer = refl; bytes = refl; image = w .1 .alike x y (w .0) a; index = refl })
   accepted-alike recover ne e d = clash true refl ne
 
   pub unused-unseen : (c : Call) → inspects c ≡ false → SeenAlike g (outcome g c (lent x index)) (outcome g c (lent y index))

@@ -5,10 +5,10 @@ ghost use Prim.Native.Nat.{_+_, _^_, _≤_, _<_};
 ghost use lib.ListN.{length};
 ghost use Rattle.laws.specs.Folds.{joinBelow};
 ghost use Rattle.laws.specs.Bytes.{splice, put};
-ghost use Rattle.paper.specs.Geometry.{headerBytes, version, fixedRegions, Allowed, noRegion, need, sizeAt};
-ghost use Rattle.paper.specs.Image.{front, blanked, coded, setPages, writtenHeader, entryRow, sizeRow};
+ghost use Rattle.paper.specs.Geometry.{headerBytes, fixedRegions, Allowed, noRegion, need, sizeAt};
+ghost use Rattle.paper.specs.Image.{notOpen, front, blanked, coded, sizeWidth, setPages, writtenHeader, entryRow, sizeRow};
 ghost use Rattle.paper.specs.Index.{emptyIndex};
-ghost use Rattle.paper.specs.Calls.{lay, laidSize};
+ghost use Rattle.paper.specs.Calls.{lay, versionNumber, laidSize};
 ghost use Rattle.paper.specs.Move.{movedOwner, movedPlace, movedSize, movedFront};
 ghost use Rattle.paper.specs.Refusals.{blank, refusal};
 ghost use Rattle.paper.specs.Outcomes.{lent, gives, outcome};
@@ -19,16 +19,26 @@ use paper::Geometry;
 use paper::Pages;
 use paper::Position;
 use paper::Region;
+use paper::Version;
 
 // ---- header and tables
 
+fn version_number(version: Version) -> u32
+    ensures { λ n. ⌜ n ≡ versionNumber version ⌝ }
+{
+    match version {
+        Version::Two => paper::VERSION_2,
+        Version::Three => paper::VERSION_3,
+    }
+}
+
 // C is the first region that can be opened.
-fn write_header(image: &mut [u8], taken: u16)
+fn write_header(image: &mut [u8], version: Version, taken: u16)
     requires { ⌜ headerBytes ≤ length (now image) ⌝ }
-    ensures { λ _. ⌜ now (image .exit) ≡ splice 0 (writtenHeader version taken fixedRegions) (now (image .entry)) ⌝ }
+    ensures { λ _. ⌜ now (image .exit) ≡ splice 0 (writtenHeader (versionNumber version) taken fixedRegions) (now (image .entry)) ⌝ }
 {
     numbers::write_u32(image, paper::MARKER_AT, 0);
-    numbers::write_u32(image, paper::VERSION_AT, paper::VERSION);
+    numbers::write_u32(image, paper::VERSION_AT, version_number(version));
     numbers::write_u16(image, paper::TAKEN_AT, taken);
     numbers::write_u16(image, paper::COUNTER_AT, paper::FIXED_REGIONS as u16);
     numbers::write_u32(image, paper::BLANK_AT, 0);
@@ -78,45 +88,55 @@ fn write_blocks(g: Geometry, image: &mut [u8], taken: u16)
     }
 }
 
-// What stands in a region's entry: regions 0 to 15 are open and empty, and no other is open.
-fn laid_size(r: Region) -> u64
-    ensures { λ n. ⌜ n ≡ coded (laidSize (r .0)) ⌝ }
+// What stands in the entry of a region that is not open: all ones in the bytes that the version has for the pages, and edition 0.
+fn not_open(version: Version) -> u64
+    ensures { λ n. ⌜ n ≡ coded (sizeWidth (versionNumber version)) notOpen ⌝ }
+{
+    match version {
+        Version::Two => paper::ALL_ONES,
+        Version::Three => paper::LOW_ONES as u64,
+    }
+}
+
+// Regions 0 to 15 are open and empty, and no other is open.
+fn laid_size(version: Version, r: Region) -> u64
+    ensures { λ n. ⌜ n ≡ coded (sizeWidth (versionNumber version)) (laidSize (r .0)) ⌝ }
 {
     if r.0 < paper::FIXED_REGIONS {
         return 0;
     }
-    paper::ALL_ONES
+    not_open(version)
 }
 
 // The old anonymous book has so many pages.
-fn new_size(r: Region, pages: Pages) -> u64
-    ensures { λ n. ⌜ n ≡ coded (movedSize (pages .0) (r .0)) ⌝ }
+fn new_size(version: Version, r: Region, pages: Pages) -> u64
+    ensures { λ n. ⌜ n ≡ coded (sizeWidth (versionNumber version)) (movedSize (pages .0) (r .0)) ⌝ }
 {
     if r.0 == paper::ANONYMOUS.0 {
         return pages.0;
     }
-    laid_size(r)
+    laid_size(version, r)
 }
 
-fn write_regions(g: Geometry, image: &mut [u8], pages: Pages)
-    requires { ⌜ Readable g (now image) ⌝ }
-    ensures { λ _. ⌜ now (image .exit) ≡ splice (sizeAt g 0) (joinBelow (g .entries) (sizeRow (movedSize (pages .0)))) (now (image .entry)) ⌝ }
+fn write_regions(g: Geometry, version: Version, image: &mut [u8], pages: Pages)
+    requires { ⌜ Readable g (now image) × (need g (pages .0) ≤ g .blocks) ⌝ }
+    ensures { λ _. ⌜ now (image .exit) ≡ splice (sizeAt g 0) (joinBelow (g .entries) (sizeRow (versionNumber version) (movedSize (pages .0)))) (now (image .entry)) ⌝ }
 {
     for r in 0..g.entries {
         let region = Region(r as u32);
-        numbers::write_u64(image, g.size_at(region), new_size(region, pages));
+        numbers::write_u64(image, g.size_at(region), new_size(version, region, pages));
     }
 }
 
 // The header last: before it there is no image, whatever stands in the tables.
-fn write_tables(g: Geometry, image: &mut [u8], pages: Pages)
+fn write_tables(g: Geometry, version: Version, image: &mut [u8], pages: Pages)
     requires { ⌜ Readable g (now image) × (need g (pages .0) ≤ g .blocks) ⌝ }
-    ensures { λ _. ⌜ now (image .exit) ≡ fronted g (movedFront g (pages .0)) (now (image .entry)) ⌝ }
+    ensures { λ _. ⌜ now (image .exit) ≡ fronted g (movedFront g version (pages .0)) (now (image .entry)) ⌝ }
 {
     let taken = g.need(pages) as u16;
     write_blocks(g, image, taken);
-    write_regions(g, image, pages);
-    write_header(image, taken);
+    write_regions(g, version, image, pages);
+    write_header(image, version, taken);
 }
 
 // ---- the rest of the reserve
@@ -140,13 +160,13 @@ fn spoil(g: Geometry, image: &mut [u8])
 
 // The old anonymous book has so many pages, in the first data blocks. The header comes last: cut short before it, recovery refuses the image,
 // and where it is zero lay takes the image again.
-pub fn write_reserve(g: Geometry, image: &mut [u8], pages: Pages)
+pub fn write_reserve(g: Geometry, version: Version, image: &mut [u8], pages: Pages)
     requires { ⌜ Readable g (now image) × (need g (pages .0) ≤ g .blocks) ⌝ }
-    ensures { λ _. ⌜ now (image .exit) ≡ fronted g (movedFront g (pages .0)) (blanked g (now (image .entry))) ⌝ }
+    ensures { λ _. ⌜ now (image .exit) ≡ fronted g (movedFront g version (pages .0)) (blanked g (now (image .entry))) ⌝ }
 {
     spoil(g, image);
     blank_unused(g, image);
-    write_tables(g, image, pages);
+    write_tables(g, version, image, pages);
 }
 
 // ---- the empty index
@@ -173,8 +193,8 @@ fn blank(g: Geometry, image: &[u8]) -> bool
     true
 }
 
-fn lay_refusal(g: Geometry, image: &[u8], index: &[u8]) -> u8
-    ensures { λ k. ⌜ k ≡ refusal g (now (image .entry)) (now (index .entry)) lay ⌝ }
+fn lay_refusal(g: Geometry, version: Version, image: &[u8], index: &[u8]) -> u8
+    ensures { λ k. ⌜ k ≡ refusal g (now (image .entry)) (now (index .entry)) (lay version) ⌝ }
 {
     let no = desk::lent(g, image, index);
     if no != 0 {
@@ -188,14 +208,14 @@ fn lay_refusal(g: Geometry, image: &[u8], index: &[u8]) -> u8
 
 // ---- Lay: header and both tables, zeros in the rest of the reserve, and the empty index. Data blocks keep their bytes
 
-pub fn lay(g: Geometry, image: &mut [u8], index: &mut [u8]) -> Answer
-    ensures { λ a. ⌜ gives a [] (lent (now (image .exit)) (now (index .exit))) ≡ outcome g lay (lent (now (image .entry)) (now (index .entry))) ⌝ }
+pub fn lay(g: Geometry, version: Version, image: &mut [u8], index: &mut [u8]) -> Answer
+    ensures { λ a. ⌜ gives a [] (lent (now (image .exit)) (now (index .exit))) ≡ outcome g (lay version) (lent (now (image .entry)) (now (index .entry))) ⌝ }
 {
-    let no = lay_refusal(g, image, index);
+    let no = lay_refusal(g, version, image, index);
     if no != 0 {
         return Answer::Refused(no);
     }
-    write_reserve(g, image, Pages(0));
+    write_reserve(g, version, image, Pages(0));
     write_empty_index(g, index);
     Answer::Done(0)
 }

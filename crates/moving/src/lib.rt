@@ -11,6 +11,7 @@ use paper::Answer;
 use paper::Block;
 use paper::Geometry;
 use paper::Pages;
+use paper::Version;
 
 // 1, 2, 3, 13.
 fn move_refusal(g: Geometry, image: &[u8], index: &[u8], pages: Pages) -> u8
@@ -49,7 +50,7 @@ pub fn move_over(g: Geometry, image: &mut [u8], index: &mut [u8], pages: Pages) 
         return Answer::Refused(no);
     }
     move_block(g, image, pages);
-    laying::write_reserve(g, image, pages);
+    laying::write_reserve(g, Version::Two, image, pages);
     index::write_index(g, image, index);
     Answer::Done(0)
 }

@@ -6,10 +6,10 @@ use lib.IntN.{pos}
 use Rattle.laws.specs.Folds.{allBelow, sumBelow, firstFrom, listFrom, joinBelow, steps}
 use Rattle.laws.specs.Bytes.{value, num, le, splice, pack, same}
 use Rattle.paper.specs.Geometry.{blockBytes, allowed, need, capacity}
-use Rattle.paper.specs.Image.{coded, decoded, stamp, taken, counter, owner, place, sizeOf, isOpen, needOf, blockOf, setTaken, setCounter, setEntry, setSize, setPages, setNotOpen, writtenHeader, entryRow, sizeRow, written}
-use Rattle.paper.specs.WellFormed.{ruleA, ruleB, ruleC, ruleD, ruleE, inOrder}
+use Rattle.paper.specs.Image.{coded, decoded, sizeWidth, versionOf, stamped, taken, counter, owner, place, sizeOf, editionOf, isOpen, needOf, blockOf, setTaken, setCounter, setEntry, setSize, setEdition, setPages, setNotOpen, writtenHeader, entryRow, sizeRow, written}
+use Rattle.paper.specs.WellFormed.{editionsRight, ruleA, ruleB, ruleC, ruleD, ruleE, inOrder}
 use Rattle.paper.specs.Index.{indexNumbers, indexOf, emptyIndex}
-use Rattle.paper.specs.Calls.{laidSize, laid, lowestNotOpen, nextRegion, opened, loaded, stored, moved, grantedNew, granted, grownFront, grown, released}
+use Rattle.paper.specs.Calls.{laidSize, laid, lowestOpenable, nextRegion, opened, loaded, stored, moved, grantedNew, granted, grownFront, grown, released}
 use Rattle.paper.specs.Refusals.{first, headerRight, rightAt, touched, touchedRight, usable, blank, unusedBlank, checks}
 use Rattle.paper.specs.Outcomes.{accepted, outcome}
 use Rattle.paper.specs.Script.{Line, scriptStart, sumOf, called, among, told, lines}
@@ -56,5 +56,5 @@ pub script-lines :
     ∷ line 8 0
     ∷ line 98 0
     ∷ [])
-unfolding lines told among called sumOf allBelow sumBelow firstFrom listFrom joinBelow steps value num le splice pack same blockBytes allowed need capacity coded decoded stamp taken counter owner place sizeOf isOpen needOf blockOf setTaken setCounter setEntry setSize setPages setNotOpen writtenHeader entryRow sizeRow written ruleA ruleB ruleC ruleD ruleE inOrder indexNumbers indexOf emptyIndex laidSize laid lowestNotOpen nextRegion opened loaded stored moved grantedNew granted grownFront grown released first headerRight rightAt touched touchedRight usable blank unusedBlank checks accepted outcome
+unfolding lines told among called sumOf allBelow sumBelow firstFrom listFrom joinBelow steps value num le splice pack same blockBytes allowed need capacity coded decoded sizeWidth versionOf stamped taken counter owner place sizeOf editionOf isOpen needOf blockOf setTaken setCounter setEntry setSize setEdition setPages setNotOpen writtenHeader entryRow sizeRow written editionsRight ruleA ruleB ruleC ruleD ruleE inOrder indexNumbers indexOf emptyIndex laidSize laid lowestOpenable nextRegion opened loaded stored moved grantedNew granted grownFront grown released first headerRight rightAt touched touchedRight usable blank unusedBlank checks accepted outcome
 script-lines = (refl, refl)

@@ -7,10 +7,12 @@ use lib.ListN.{take, length}
 use Rattle.laws.specs.Bytes.{splice}
 use Rattle.paper.specs.declared.Geometry.{Geometry}
 use Rattle.paper.specs.declared.Answer.the-variants.{Done, Refused}
-use Rattle.paper.specs.Geometry.{version, fixedRegions, anonymous, blockBytes, noRegion, need, dataAt}
+use Rattle.paper.specs.declared.Version.{Version}
+use Rattle.paper.specs.declared.Version.the-variants.{Two}
+use Rattle.paper.specs.Geometry.{fixedRegions, anonymous, blockBytes, noRegion, need, dataAt}
 use Rattle.paper.specs.Image.{Size, holds, rest, blanked, written}
 use Rattle.paper.specs.Index.{indexOf}
-use Rattle.paper.specs.Calls.{laidSize}
+use Rattle.paper.specs.Calls.{versionNumber, laidSize}
 use Rattle.paper.specs.Refusals.{Check, _when_, first, no1, no2, no3}
 use Rattle.paper.specs.Outcomes.{State, lent, Outcome, gives}
 
@@ -26,17 +28,17 @@ unfoldable pub movedSize : ℕ → ℕ → Size
 movedSize n r = cond (eqb r anonymous) (holds n) (laidSize r)
 
 module _ (g : Geometry) where
-  -- version 2, N is k, C is 16
-  unfoldable pub movedFront : ℕ → List ℕ
-  movedFront n = let k = need g n in written g version k fixedRegions (movedOwner g k) (movedPlace k) (movedSize n)
+  -- N is k, C is 16
+  unfoldable pub movedFront : Version → ℕ → List ℕ
+  movedFront v n = let k = need g n in written g (versionNumber v) k fixedRegions (movedOwner g k) (movedPlace k) (movedSize n)
 
   -- the whole first block moves to the end: to data block k-1. With k 0 there is nothing to move
   unfoldable pub movedData : ℕ → List ℕ → List ℕ
   movedData n image = let k = need g n in cond (eqb k 0) image (splice (dataAt g (k - 1)) (take (blockBytes g) image) image)
 
-  -- its place becomes the reserve; bytes past those blocks stay
+  -- its place becomes the reserve, of version 2 (02, R-12); bytes past those blocks stay
   abbrev pub movedImage : ℕ → List ℕ → List ℕ
-  movedImage n image = movedFront n ++ rest g (blanked g (movedData n image))
+  movedImage n image = movedFront Two n ++ rest g (blanked g (movedData n image))
 
   module _ (n : ℕ) (image index : List ℕ) where
     -- the image holds fewer than k+1 whole blocks, or k exceeds B
@@ -51,4 +53,4 @@ module _ (g : Geometry) where
   unfoldable pub moveOutcome : ℕ → State → Outcome
   moveOutcome n s =
       let k = moveRefusal n (s .image) (s .index) in
-      cond (eqb k 0) (gives (Done 0) [] (lent (movedImage n (s .image)) (indexOf g (movedFront n)))) (gives (Refused k) [] s)
+      cond (eqb k 0) (gives (Done 0) [] (lent (movedImage n (s .image)) (indexOf g (movedFront Two n)))) (gives (Refused k) [] s)

@@ -9,15 +9,16 @@ use lib.ListN.{getD, length, replicate}
 use Rattle.laws.specs.Bytes.{num}
 use Rattle.laws.specs.Folds.{sumBelow}
 use Rattle.paper.specs.declared.Answer.{Answer}
-use Rattle.paper.specs.declared.Answer.the-variants.{Done, Refused}
+use Rattle.paper.specs.declared.Answer.the-variants.{Done, Opened, Refused}
+use Rattle.paper.specs.declared.Version.the-variants.{Two}
 use Rattle.paper.specs.Geometry.{bench}
 use Rattle.paper.specs.Calls.{Call, lay, «open», grow, load, store, look, size, release, recover}
 use Rattle.paper.specs.Outcomes.{numberOf, valueOf, State, Outcome, outcome}
 use Rattle.paper.specs.Bench.{zeroed}
 
--- it lends a zeroed image of 8,704 bytes and lays it in BENCH
+-- it lends a zeroed image of 8,704 bytes and lays it in BENCH, in version 2, whose books have edition 0 only
 abbrev pub scriptStart : State
-scriptStart = outcome bench lay zeroed .state
+scriptStart = outcome bench (lay Two) zeroed .state
 
 -- ---- records of 16 bytes, no header
 abbrev pub recordBytes : ℕ
@@ -53,11 +54,11 @@ _makes_ k c = record { no = k; call = c }
 abbrev pub operations : List ℕ → List Operation
 operations r =
     1 makes «open»
-    ∷ 2 makes grow (regionIn r) (numberIn r)
-    ∷ 3 makes store (regionIn r) (numberIn r) (replicate (lengthIn r) (fillIn r))
-    ∷ 4 makes load (regionIn r) (numberIn r) (replicate (lengthIn r) 0)
-    ∷ 5 makes release (regionIn r)
-    ∷ 6 makes size (regionIn r)
+    ∷ 2 makes grow (regionIn r) 0 (numberIn r)
+    ∷ 3 makes store (regionIn r) 0 (numberIn r) (replicate (lengthIn r) (fillIn r))
+    ∷ 4 makes load (regionIn r) 0 (numberIn r) (replicate (lengthIn r) 0)
+    ∷ 5 makes release (regionIn r) 0
+    ∷ 6 makes size (regionIn r) 0
     ∷ 7 makes recover
     ∷ []
 
@@ -83,17 +84,18 @@ sumOf bytes = sumBelow (length bytes) (λ i. getD bytes i 0)
 
 abbrev pub summed : List ℕ → Answer → Answer
 summed bytes (Done v) = Done (sumOf bytes)
+summed bytes (Opened r e) = Opened r e
 summed bytes (Refused k) = Refused k
 
 abbrev pub answerOf : Call → Outcome → Answer
-answerOf lay o = o .answer
+answerOf (lay v) o = o .answer
 answerOf «open» o = o .answer
-answerOf (grow r n) o = o .answer
-answerOf (load r i buffer) o = summed (o .bytes) (o .answer)
-answerOf (store r i bytes) o = o .answer
-answerOf (look r i) o = o .answer
-answerOf (size r) o = o .answer
-answerOf (release r) o = o .answer
+answerOf (grow r e n) o = o .answer
+answerOf (load r e i buffer) o = summed (o .bytes) (o .answer)
+answerOf (store r e i bytes) o = o .answer
+answerOf (look r e i) o = o .answer
+answerOf (size r e) o = o .answer
+answerOf (release r e) o = o .answer
 answerOf recover o = o .answer
 
 unfoldable pub called : Call → State → Told

@@ -69,6 +69,7 @@ module _ (g : Geometry) (t : List ℕ) where
           record {
             low = a .0;
             high = a .1;
+            editions = a .2;
             fits = λ r h. fits-summed r h (L .total);
             whole = eqb-true _ _ (o .1);
             total = L .total;
@@ -88,7 +89,7 @@ module _ (g : Geometry) (t : List ℕ) where
 
     pub rules-vouched : Rules g t → witnessed g t index ≡ true → vouched g t index ≡ true
     unfolding vouched
-    rules-vouched R w = and-true (and-true (and-true (facts-ruleA g t (R .low) (R .high)) (eq-eqb _ _ (R .whole))) (facts-ruleE g t (R .blank))) w
+    rules-vouched R w = and-true (and-true (and-true (facts-ruleA g t (R .low) (R .high) (R .editions)) (eq-eqb _ _ (R .whole))) (facts-ruleE g t (R .blank))) w
 
 module _ (g : Geometry) (image index : List ℕ) (E : Entered g image index) where
   abbrev t : List ℕ

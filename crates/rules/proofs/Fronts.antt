@@ -1,6 +1,6 @@
 -- A number of the front, read and written in the image.
 use Prim.Native.Nat.{ℕ, _+_, _≤_, _<_}
-use mathlib.Core.Bool.{not}
+use mathlib.Core.Bool.{true, false, not}
 use mathlib.Core.Path.{_≡_, sym, _∙_, ap}
 use mathlib.Core.List.{List}
 use native.Mathlib.Omega.{arith}
@@ -14,9 +14,9 @@ use Rattle.laws.proofs.Lists.{take-splice, drop-splice-before, splice-first}
 use Rattle.laws.proofs.Bytes.{length-le, length-put}
 use Rattle.laws.proofs.Known.{Bytes, num-fits}
 use Rattle.paper.specs.declared.Geometry.{Geometry}
-use Rattle.paper.specs.Geometry.{takenAt, counterAt, allOnes, entryAt, sizeAt, frontBytes}
-use Rattle.paper.specs.Image.{notOpen, holds, decoded, front, rest, taken, counter, owner, place, sizeOf, isOpen}
-use Rattle.rules.proofs.Cells.{decoded-pages, decoded-not-open, num-front, front-joined}
+use Rattle.paper.specs.Geometry.{versionAt, takenAt, counterAt, version3, halfBytes, allOnes, entryAt, sizeAt, editionAt, frontBytes}
+use Rattle.paper.specs.Image.{notOpen, holds, decoded, sizeWidth, front, rest, versionOf, taken, counter, owner, place, sizeOf, editionOf, isOpen}
+use Rattle.rules.proofs.Cells.{width-most, decoded-pages, decoded-not-open, num-front, front-joined}
 use Rattle.rules.proofs.Facts.{is-open, is-not-open}
 use Rattle.rules.specs.Facts.{Readable, fronted}
 
@@ -61,23 +61,39 @@ module _ (g : Geometry) (image : List ℕ) where
     pub place-fits : Bytes image → place g (front g image) b < 65536
     place-fits bytes = omega (arith, place-read, num-fits 2 image (entryAt g b + 2) bytes)
 
-  module _ (r n : ℕ) (h : r < g .entries) (e : n ≡ num 8 image (sizeAt g r)) where
-    size-read : sizeOf g (front g image) r ≡ decoded n
+  pub version-read : num 4 image versionAt ≡ versionOf g (front g image)
+  unfolding versionOf
+  version-read = sym (num-front g image 4 versionAt (omega arith))
+
+  module _ (r : ℕ) (h : r < g .entries) where
+    -- of w bytes, as many as its version keeps for it
+    pub size-read : (w : ℕ) → sizeWidth (versionOf g (front g image)) ≡ w → sizeOf g (front g image) r ≡ decoded w (num w image (sizeAt g r))
     unfolding sizeOf
-    size-read = rw (num-front g image 8 (sizeAt g r) (omega arith), ← e)
+    size-read w d = rw (d, num-front g image w (sizeAt g r) (omega (arith, width-most (versionOf g (front g image)))))
 
-    pub size-open : (n ≡ allOnes → ⊥) → sizeOf g (front g image) r ≡ holds n
-    size-open ne = size-read ∙ decoded-pages n ne
+    -- what a number of w bytes says of it
+    module _ (w n : ℕ) (s : sizeOf g (front g image) r ≡ decoded w n) where
+      pub size-open : (n ≡ allOnes w → ⊥) → sizeOf g (front g image) r ≡ holds n
+      size-open ne = s ∙ decoded-pages w n ne
 
-    pub size-not-open : n ≡ allOnes → sizeOf g (front g image) r ≡ notOpen
-    size-not-open d = size-read ∙ rw d decoded-not-open
+      pub size-not-open : n ≡ allOnes w → sizeOf g (front g image) r ≡ notOpen
+      size-not-open z = s ∙ rw z (decoded-not-open w)
 
-    pub open-read : not (eqb n allOnes) ≡ isOpen g (front g image) r
-    open-read = go (ℕ-discrete n allOnes)
-      where
-        go : Dec (n ≡ allOnes) → not (eqb n allOnes) ≡ isOpen g (front g image) r
-        go (yes d) = rw (eq-eqb n allOnes d, is-not-open g (front g image) r (size-not-open d))
-        go (no ne) = rw (ne-eqb n allOnes ne, is-open g (front g image) r h n (size-open ne))
+      pub open-read : not (eqb n (allOnes w)) ≡ isOpen g (front g image) r
+      open-read = go (ℕ-discrete n (allOnes w))
+        where
+          go : Dec (n ≡ allOnes w) → not (eqb n (allOnes w)) ≡ isOpen g (front g image) r
+          go (yes z) = rw (eq-eqb n (allOnes w) z, is-not-open g (front g image) r (size-not-open z))
+          go (no ne) = rw (ne-eqb n (allOnes w) ne, is-open g (front g image) r h n (size-open ne))
+
+    -- version 3 keeps the edition, any other has edition 0
+    pub edition-read : eqb (versionOf g (front g image)) version3 ≡ true → num halfBytes image (editionAt g r) ≡ editionOf g (front g image) r
+    unfolding editionOf
+    edition-read d = rw d (sym (num-front g image 4 (editionAt g r) (omega arith)))
+
+    pub edition-none : eqb (versionOf g (front g image)) version3 ≡ false → editionOf g (front g image) r ≡ 0
+    unfolding editionOf
+    edition-none d = rw d
 
 -- ---- an image whose front was written anew: its front is that front, and the rest stands
 -- writes keep an image's length

@@ -3,11 +3,11 @@
 use Prim.Native.Nat.{ℕ, _+_, _-_, _*_, _/_, _≤_, _<_}
 use mathlib.Core.Bool.{true, false, not, _||_, cond}
 use mathlib.Core.Logic.{_≢_, _↔_}
-use mathlib.Core.Path.{_≡_, refl, sym, _∙_}
+use mathlib.Core.Path.{_≡_, refl, sym, _∙_, ap}
 use mathlib.Core.List.{List, [], _∷_, _++_}
 use native.Mathlib.Omega.{arith}
 use native.Mathlib.Decide.{ℕ-discrete}
-use borrow.Author.Tests.{eqb-true, eqb-false, eq-eqb, ne-eqb, ltb-false, le-ltb, leb-true, leb-false, le-leb, lt-leb, not-true, not-false}
+use borrow.Author.Tests.{eqb-true, eqb-false, eq-eqb, ne-eqb, ltb-false, le-ltb, leb-true, leb-false, le-leb, lt-leb, not-false}
 use lib.Dec.{eqb, leb, ltb}
 use lib.ListN.{getD, length}
 use lib.Seq.{getD-take}
@@ -17,19 +17,21 @@ use Rattle.laws.proofs.Lists.{same-refl, same-eq}
 use Rattle.laws.specs.Bytes.{same}
 use Rattle.paper.specs.declared.Geometry.{Geometry}
 use Rattle.paper.specs.declared.Answer.the-variants.{Done, Refused}
+use Rattle.paper.specs.declared.Version.{Version}
+use Rattle.paper.specs.declared.Version.the-variants.{Two}
 use Rattle.paper.specs.Geometry.{headerBytes, fixedRegions, reclaimed, blockBytes, allowed, Allowed, noRegion, need, capacity, mostBookPages, frontBytes, indexBytes}
-use Rattle.paper.specs.Image.{front, rest, blanked, stamp, taken, counter, pagesOf, needOf}
+use Rattle.paper.specs.Image.{front, rest, blanked, stamped, taken, counter, pagesOf, editionOf, needOf}
 use Rattle.paper.specs.WellFormed.{inOrder}
 use Rattle.paper.specs.Index.{indexOf, emptyIndex, blockIn}
 use Rattle.paper.specs.Calls.{Call, lay, «open», grow, load, store, look, size, release, recover, laid, nextRegion, opened, loaded, stored, newBlocks, grown, lookBytes, released}
-use Rattle.paper.specs.Refusals.{Check, first, headerRight, touchedRight, usable, blank, unusedBlank, no1, no2, no3, no4, no5, no6, no6of, no7, no7of, no8, no8release, no9, no10, no11, no12, no16, to4, to5, to7, ofBook, checks, refusal, wellFormed}
+use Rattle.paper.specs.Refusals.{Check, first, headerRight, touchedRight, usable, blank, unusedBlank, no1, no2, no3, no4, no5, no6, no6of, no7, no7of, no8, no8release, no9, no10, no11, no12, no16, no18, to4, to5, to7, naming, ofBook, checks, refusal, wellFormed}
 use Rattle.paper.specs.Move.{movedFront, movedImage, no13, moveRefusal, moveOutcome}
-use Rattle.paper.specs.Outcomes.{numberOf, valueOf, State, lent, gives, tabled, accepted, buffer, outcome}
+use Rattle.paper.specs.Outcomes.{numberOf, valueOf, editionIn, opening, State, lent, gives, tabled, accepted, buffer, outcome}
 use Rattle.paper.proofs.Arithmetic.{allowed-facts, facts-allowed, whole-block}
-use Rattle.rules.specs.Facts.{Rules, Header, Formed, Readable, Headed, Whole, Entered, Ordered, Reads, Movable}
+use Rattle.rules.specs.Facts.{Rules, Header, Formed, Readable, Headed, Whole, Entered, Ordered, IsBook, Reads, Movable}
 use Rattle.rules.specs.Unused.{inspects}
 use Rattle.rules.specs.Lines.{headNo, wholeNo, bookNo, lentNo, indexedHeadNo, enteredNo, orderedNo, readNo}
-use Rattle.rules.proofs.Cells.{stamp-version, length-front}
+use Rattle.rules.proofs.Cells.{length-front}
 use Rattle.rules.proofs.Facts.{order-rules, rules-order}
 use Rattle.rules.proofs.Index.{length-index}
 use Rattle.rules.proofs.First.{Passes, first-nil, pass, halt, shown, distinct, first-exactly, first-stop}
@@ -42,16 +44,14 @@ module _ (g : Geometry) (t : List ℕ) where
   header-facts e =
       let p3 = and-parts _ (leb (counter g t) (noRegion g)) e in
       let p2 = and-parts _ (leb fixedRegions (counter g t)) (p3 .0) in
-      let p1 = and-parts (not (eqb (stamp g t) 0)) (leb (taken g t) (g .blocks)) (p2 .0) in
-      let right = stamp-version g t (eqb-false _ _ (not-true _ (p1 .0))) in
-      record { stamp = right; taken-most = leb-true _ _ (p1 .1); counter-least = leb-true _ _ (p2 .1); counter-most = leb-true _ _ (p3 .1) }
+      let p1 = and-parts (stamped g t) (leb (taken g t) (g .blocks)) (p2 .0) in
+      record { stamp = p1 .0; taken-most = leb-true _ _ (p1 .1); counter-least = leb-true _ _ (p2 .1); counter-most = leb-true _ _ (p3 .1) }
 
   facts-header : Header g t → headerRight g t ≡ true
   unfolding headerRight
   facts-header h =
-      let right : not (eqb (stamp g t) 0) ≡ true = rw (h .stamp) in
       and-true
-      (and-true (and-true right (le-leb _ _ (h .taken-most))) (le-leb _ _ (h .counter-least)))
+      (and-true (and-true (h .stamp) (le-leb _ _ (h .taken-most))) (le-leb _ _ (h .counter-least)))
       (le-leb _ _ (h .counter-most))
 
 -- ---- what each check asks
@@ -92,6 +92,9 @@ module _ (g : Geometry) (image index : List ℕ) where
       fine = λ p. or-false {b = not (usable g t r)} (ne-eqb r 0 (p .1)) (not-of-true (p .0));
       shows = λ e. let p = or-parts-false (eqb r 0) (not (usable g t r)) e in (not-false _ (p .1), eqb-false r 0 (p .0));
     }
+
+    ask18 : (d : ℕ) → Passes (no18 g image index r d) (editionOf g (front g image) r ≡ d)
+    ask18 d = record { fine = λ e. not-of-true (eq-eqb _ _ e); shows = λ e. eqb-true _ _ (not-false _ e) }
 
     ask6of : Passes (no6of g image index r) (pagesOf g (front g image) r ≤ mostBookPages g)
     ask6of = record { fine = λ l. le-ltb _ _ l; shows = λ e. ltb-false _ _ e }
@@ -210,26 +213,31 @@ module _ (g : Geometry) (image : List ℕ) where
     unfolding wholeNo
     whole-0 l = whole-line (no5 g image [] ∷ []) H ∙ pass (ask5 g image []) _ l ∙ first-nil
 
-  -- 8 and 6, of one book
-  module _ (r : ℕ) where
-    pub book-shown : bookNo g image r ≡ 0 → (usable g (front g image) r ≡ true) × (pagesOf g (front g image) r ≤ mostBookPages g)
+  -- 8, 18 and 6, of one book
+  module _ (r d : ℕ) where
+    pub book-shown : bookNo g image r d ≡ 0 → IsBook g (front g image) r d × (pagesOf g (front g image) r ≤ mostBookPages g)
     unfolding bookNo
     book-shown e =
         let f8 = shown (ask8 g image [] r) _ (omega arith) e in
-        (f8 .0, shown (ask6of g image [] r) _ (omega arith) (f8 .1) .0)
+        let f18 = shown (ask18 g image [] r d) _ (omega arith) (f8 .1) in
+        (record { usable = f8 .0; edition = f18 .0 }, shown (ask6of g image [] r) _ (omega arith) (f18 .1) .0)
 
-    pub book-8 : usable g (front g image) r ≡ false → bookNo g image r ≡ 8
+    pub book-8 : usable g (front g image) r ≡ false → bookNo g image r d ≡ 8
     unfolding bookNo
     book-8 u = halt (ask8 g image [] r) _ (λ h. clash (usable g (front g image) r) h u)
 
-    module _ (u : usable g (front g image) r ≡ true) where
-      pub book-6 : mostBookPages g < pagesOf g (front g image) r → bookNo g image r ≡ 6
-      unfolding bookNo
-      book-6 l = pass (ask8 g image [] r) _ u ∙ halt (ask6of g image [] r) _ (λ h. omega arith)
+    pub book-18 : usable g (front g image) r ≡ true → editionOf g (front g image) r ≢ d → bookNo g image r d ≡ 18
+    unfolding bookNo
+    book-18 u ne = pass (ask8 g image [] r) _ u ∙ halt (ask18 g image [] r d) _ ne
 
-      pub book-0 : pagesOf g (front g image) r ≤ mostBookPages g → bookNo g image r ≡ 0
+    module _ (b : IsBook g (front g image) r d) where
+      pub book-6 : mostBookPages g < pagesOf g (front g image) r → bookNo g image r d ≡ 6
       unfolding bookNo
-      book-0 l = pass (ask8 g image [] r) _ u ∙ pass (ask6of g image [] r) _ l ∙ first-nil
+      book-6 l = pass (ask8 g image [] r) _ (b .usable) ∙ pass (ask18 g image [] r d) _ (b .edition) ∙ halt (ask6of g image [] r) _ (λ h. omega arith)
+
+      pub book-0 : pagesOf g (front g image) r ≤ mostBookPages g → bookNo g image r d ≡ 0
+      unfolding bookNo
+      book-0 l = pass (ask8 g image [] r) _ (b .usable) ∙ pass (ask18 g image [] r d) _ (b .edition) ∙ pass (ask6of g image [] r) _ l ∙ first-nil
 
 -- ---- the beginnings with one
 module _ (g : Geometry) (image index : List ℕ) where
@@ -393,27 +401,27 @@ module _ (g : Geometry) (image index : List ℕ) where
   tables = front g image
 
   -- ---- lay: 1, 2, 3, 12
-  pub lay-accepted : refusal g image index lay ≡ 0 → Allowed g × (length index ≡ indexBytes g) × (blockBytes g ≤ length image) × (blank g image ≡ true)
+  pub lay-accepted : (v : Version) → refusal g image index (lay v) ≡ 0 → Allowed g × (length index ≡ indexBytes g) × (blockBytes g ≤ length image) × (blank g image ≡ true)
   unfolding checks
-  lay-accepted e =
+  lay-accepted v e =
       let f1 = shown (ask1 g image index) _ (omega arith) e in
       let f2 = shown (ask2 g image index) _ (omega arith) (f1 .1) in
       let f3 = shown (ask3 g image index) _ (omega arith) (f2 .1) in
       let f12 = shown (ask12 g image index) _ (omega arith) (f3 .1) in
       (f1 .0, f2 .0, f3 .0, f12 .0)
 
-  pub lay-stop : (k : ℕ) → k ≡ lentNo g image index → k ≢ 0 → refusal g image index lay ≡ k
+  pub lay-stop : (v : Version) (k : ℕ) → k ≡ lentNo g image index → k ≢ 0 → refusal g image index (lay v) ≡ k
   unfolding lentNo checks
-  lay-stop k e ne = first-stop (no1 g image index ∷ no2 g image index ∷ no3 g image index ∷ []) (no12 g image index ∷ []) refl k (sym e) ne
+  lay-stop v k e ne = first-stop (no1 g image index ∷ no2 g image index ∷ no3 g image index ∷ []) (no12 g image index ∷ []) refl k (sym e) ne
 
   module _ (R : Readable g image) (i : length index ≡ indexBytes g) where
-    pub lay-12 : blank g image ≡ false → refusal g image index lay ≡ 12
+    pub lay-12 : (v : Version) → blank g image ≡ false → refusal g image index (lay v) ≡ 12
     unfolding checks
-    lay-12 b = pass3 g image index R i (no12 g image index ∷ []) ∙ halt (ask12 g image index) _ (λ h. clash (blank g image) h b)
+    lay-12 v b = pass3 g image index R i (no12 g image index ∷ []) ∙ halt (ask12 g image index) _ (λ h. clash (blank g image) h b)
 
-    pub lay-0 : blank g image ≡ true → refusal g image index lay ≡ 0
+    pub lay-0 : (v : Version) → blank g image ≡ true → refusal g image index (lay v) ≡ 0
     unfolding checks
-    lay-0 b = pass3 g image index R i (no12 g image index ∷ []) ∙ pass (ask12 g image index) _ b ∙ first-nil
+    lay-0 v b = pass3 g image index R i (no12 g image index ∷ []) ∙ pass (ask12 g image index) _ b ∙ first-nil
 
   -- ---- a move: 1, 2, 3, 13
   module _ (n : ℕ) where
@@ -514,161 +522,184 @@ module _ (g : Geometry) (image index : List ℕ) where
     unfolding checks
     open-0 l = pass7 g image index O (no11 g image index ∷ []) ∙ pass (ask11 g image index) _ l ∙ first-nil
 
-  -- ---- grow: 1 to 8, 10
-  module _ (r n : ℕ) where
+  -- ---- grow: 1 to 8, 18, 10
+  module _ (r d n : ℕ) where
     abbrev growing : List Check
-    growing = no8 g image index r ∷ no10 g image index r n ∷ []
+    growing = naming g image index r d (no10 g image index r n ∷ [])
 
-    pub grow-accepted : refusal g image index (grow r n) ≡ 0
-        → Ordered g image index × (usable g (front g image) r ≡ true)
+    pub grow-accepted : refusal g image index (grow r d n) ≡ 0
+        → Ordered g image index × IsBook g (front g image) r d
         × (newBlocks g r n (front g image) ≤ needOf g (front g image) reclaimed + (capacity g (length image) - taken g (front g image)))
     unfolding checks
     grow-accepted e =
         let p = shown7 g image index growing e in
         let f8 = shown (ask8 g image index r) _ (omega arith) (p .1) in
-        (p .0, f8 .0, shown (ask10 g image index r n) _ (omega arith) (f8 .1) .0)
+        let f18 = shown (ask18 g image index r d) _ (omega arith) (f8 .1) in
+        (p .0, record { usable = f8 .0; edition = f18 .0 }, shown (ask10 g image index r n) _ (omega arith) (f18 .1) .0)
 
-    pub grow-stop : (k : ℕ) → k ≡ orderedNo g image index → k ≢ 0 → refusal g image index (grow r n) ≡ k
+    pub grow-stop : (k : ℕ) → k ≡ orderedNo g image index → k ≢ 0 → refusal g image index (grow r d n) ≡ k
     unfolding orderedNo checks
     grow-stop k e ne = first-stop (to7 g image index []) growing refl k (sym e) ne
 
     module _ (O : Ordered g image index) where
-      pub grow-8 : usable g (front g image) r ≡ false → refusal g image index (grow r n) ≡ 8
+      pub grow-8 : usable g (front g image) r ≡ false → refusal g image index (grow r d n) ≡ 8
       unfolding checks
       grow-8 u = pass7 g image index O growing ∙ halt (ask8 g image index r) _ (λ h. clash (usable g tables r) h u)
 
-      module _ (u : usable g (front g image) r ≡ true) where
-        pub grow-10 : needOf g (front g image) reclaimed + (capacity g (length image) - taken g (front g image)) < newBlocks g r n (front g image)
-            → refusal g image index (grow r n) ≡ 10
+      pub grow-18 : usable g (front g image) r ≡ true → editionOf g (front g image) r ≢ d → refusal g image index (grow r d n) ≡ 18
+      unfolding checks
+      grow-18 u ne = pass7 g image index O growing ∙ pass (ask8 g image index r) _ u ∙ halt (ask18 g image index r d) _ ne
+
+      module _ (b : IsBook g (front g image) r d) where
+        on-10 : refusal g image index (grow r d n) ≡ first (no10 g image index r n ∷ [])
         unfolding checks
-        grow-10 l = pass7 g image index O growing ∙ pass (ask8 g image index r) _ u ∙ halt (ask10 g image index r n) _ (λ h. omega arith)
+        on-10 = pass7 g image index O growing ∙ pass (ask8 g image index r) _ (b .usable) ∙ pass (ask18 g image index r d) _ (b .edition)
+
+        pub grow-10 : needOf g (front g image) reclaimed + (capacity g (length image) - taken g (front g image)) < newBlocks g r n (front g image)
+            → refusal g image index (grow r d n) ≡ 10
+        grow-10 l = on-10 ∙ halt (ask10 g image index r n) _ (λ h. omega arith)
 
         pub grow-0 : newBlocks g r n (front g image) ≤ needOf g (front g image) reclaimed + (capacity g (length image) - taken g (front g image))
-            → refusal g image index (grow r n) ≡ 0
-        unfolding checks
-        grow-0 l = pass7 g image index O growing ∙ pass (ask8 g image index r) _ u ∙ pass (ask10 g image index r n) _ l ∙ first-nil
+            → refusal g image index (grow r d n) ≡ 0
+        grow-0 l = on-10 ∙ pass (ask10 g image index r n) _ l ∙ first-nil
 
-  -- ---- release: 1 to 8
-  module _ (r : ℕ) where
+  -- ---- release: 1 to 8, 18
+  module _ (r d : ℕ) where
     abbrev releasing : List Check
-    releasing = no8release g image index r ∷ []
+    releasing = no8release g image index r ∷ no18 g image index r d ∷ []
 
-    pub release-accepted : refusal g image index (release r) ≡ 0 → Ordered g image index × (usable g (front g image) r ≡ true) × (fixedRegions ≤ r)
+    pub release-accepted : refusal g image index (release r d) ≡ 0 → Ordered g image index × IsBook g (front g image) r d × (fixedRegions ≤ r)
     unfolding checks
     release-accepted e =
         let p = shown7 g image index releasing e in
-        let f8 = shown (ask8release g image index r) _ (omega arith) (p .1) .0 in
-        (p .0, f8 .0, callable-facts r (usable-facts g tables r (f8 .0) .0) (f8 .1))
+        let f8 = shown (ask8release g image index r) _ (omega arith) (p .1) in
+        let f18 = shown (ask18 g image index r d) _ (omega arith) (f8 .1) in
+        let u = f8 .0 .0 in
+        (p .0, record { usable = u; edition = f18 .0 }, callable-facts r (usable-facts g tables r u .0) (f8 .0 .1))
 
-    pub release-stop : (k : ℕ) → k ≡ orderedNo g image index → k ≢ 0 → refusal g image index (release r) ≡ k
+    pub release-stop : (k : ℕ) → k ≡ orderedNo g image index → k ≢ 0 → refusal g image index (release r d) ≡ k
     unfolding orderedNo checks
     release-stop k e ne = first-stop (to7 g image index []) releasing refl k (sym e) ne
 
     module _ (O : Ordered g image index) where
-      pub release-8 : ((usable g (front g image) r ≡ true) × (r ≢ 0) → ⊥) → refusal g image index (release r) ≡ 8
+      pub release-8 : ((usable g (front g image) r ≡ true) × (r ≢ 0) → ⊥) → refusal g image index (release r d) ≡ 8
       unfolding checks
       release-8 n = pass7 g image index O releasing ∙ halt (ask8release g image index r) _ n
 
-      pub release-0 : usable g (front g image) r ≡ true → r ≢ 0 → refusal g image index (release r) ≡ 0
-      unfolding checks
-      release-0 u ne = pass7 g image index O releasing ∙ pass (ask8release g image index r) _ (u, ne) ∙ first-nil
+      module _ (u : usable g (front g image) r ≡ true) (ne : r ≢ 0) where
+        on-18 : refusal g image index (release r d) ≡ first (no18 g image index r d ∷ [])
+        unfolding checks
+        on-18 = pass7 g image index O releasing ∙ pass (ask8release g image index r) _ (u, ne)
 
-  -- ---- load, store, look: 1 to 5, 8, 6, 9, 7
+        pub release-18 : editionOf g (front g image) r ≢ d → refusal g image index (release r d) ≡ 18
+        release-18 e = on-18 ∙ halt (ask18 g image index r d) _ e
+
+        pub release-0 : editionOf g (front g image) r ≡ d → refusal g image index (release r d) ≡ 0
+        release-0 e = on-18 ∙ pass (ask18 g image index r d) _ e ∙ first-nil
+
+  -- ---- load, store, look: 1 to 5, 8, 18, 6, 9, 7
   -- the checks see only how many bytes are asked
-  pub load-number : (r o : ℕ) (buffer : List ℕ) → refusal g image index (load r o buffer) ≡ readNo g image index r o (length buffer)
+  pub load-number : (r d o : ℕ) (buffer : List ℕ) → refusal g image index (load r d o buffer) ≡ readNo g image index r d o (length buffer)
   unfolding readNo checks
-  load-number r o buffer = refl
+  load-number r d o buffer = refl
 
-  pub store-number : (r o : ℕ) (bytes : List ℕ) → refusal g image index (store r o bytes) ≡ readNo g image index r o (length bytes)
+  pub store-number : (r d o : ℕ) (bytes : List ℕ) → refusal g image index (store r d o bytes) ≡ readNo g image index r d o (length bytes)
   unfolding readNo checks
-  store-number r o bytes = refl
+  store-number r d o bytes = refl
 
-  pub look-number : (r o : ℕ) → refusal g image index (look r o) ≡ readNo g image index r o 0
+  pub look-number : (r d o : ℕ) → refusal g image index (look r d o) ≡ readNo g image index r d o 0
   unfolding readNo checks
-  look-number r o = refl
+  look-number r d o = refl
 
-  module _ (r o n : ℕ) where
+  module _ (r d o n : ℕ) where
     abbrev last : List Check
     last = no9 g image index r o n ∷ no7of g image index r o n ∷ []
 
-    pub read-accepted : readNo g image index r o n ≡ 0 → Reads g image index r o n
+    pub read-accepted : readNo g image index r d o n ≡ 0 → Reads g image index r o n × (editionOf g (front g image) r ≡ d)
     unfolding readNo
     read-accepted e =
-        let p = shown5 g image index (ofBook g image index r last) e in
+        let p = shown5 g image index (ofBook g image index r d last) e in
         let f8 = shown (ask8 g image index r) _ (omega arith) (p .1) in
-        let f6 = shown (ask6of g image index r) _ (omega arith) (f8 .1) in
+        let f18 = shown (ask18 g image index r d) _ (omega arith) (f8 .1) in
+        let f6 = shown (ask6of g image index r) _ (omega arith) (f18 .1) in
         let f9 = shown (ask9 g image index r o n) _ (omega arith) (f6 .1) in
         let f7 = shown (ask7of g image index r o n) _ (omega arith) (f9 .1) in
-        record { entered = p .0; usable = f8 .0; fits = f6 .0; within = f9 .0; right = f7 .0 }
+        (record { entered = p .0; usable = f8 .0; fits = f6 .0; within = f9 .0; right = f7 .0 }, f18 .0)
 
-    pub read-stop : (k : ℕ) → k ≡ enteredNo g image index → k ≢ 0 → readNo g image index r o n ≡ k
+    pub read-stop : (k : ℕ) → k ≡ enteredNo g image index → k ≢ 0 → readNo g image index r d o n ≡ k
     unfolding enteredNo readNo
-    read-stop k e ne = first-stop (to5 g image index []) (ofBook g image index r last) refl k (sym e) ne
+    read-stop k e ne = first-stop (to5 g image index []) (ofBook g image index r d last) refl k (sym e) ne
 
     module _ (E : Entered g image index) where
-      pub read-book : (k : ℕ) → k ≡ bookNo g image r → k ≢ 0 → readNo g image index r o n ≡ k
+      pub read-book : (k : ℕ) → k ≡ bookNo g image r d → k ≢ 0 → readNo g image index r d o n ≡ k
       unfolding bookNo readNo
-      read-book k e ne = pass5 g image index E (ofBook g image index r last) ∙ first-stop (ofBook g image [] r []) last refl k (sym e) ne
+      read-book k e ne = pass5 g image index E (ofBook g image index r d last) ∙ first-stop (ofBook g image [] r d []) last refl k (sym e) ne
 
-      module _ (u : usable g (front g image) r ≡ true) (f : pagesOf g (front g image) r ≤ mostBookPages g) where
-        on-last : readNo g image index r o n ≡ first last
+      module _ (b : IsBook g (front g image) r d) (f : pagesOf g (front g image) r ≤ mostBookPages g) where
+        on-last : readNo g image index r d o n ≡ first last
         unfolding readNo
-        on-last = pass5 g image index E (ofBook g image index r last) ∙ pass (ask8 g image index r) _ u ∙ pass (ask6of g image index r) _ f
+        on-last =
+            pass5 g image index E (ofBook g image index r d last) ∙ pass (ask8 g image index r) _ (b .usable)
+            ∙ pass (ask18 g image index r d) _ (b .edition) ∙ pass (ask6of g image index r) _ f
 
-        pub read-9 : pagesOf g (front g image) r * g .page < o + n → readNo g image index r o n ≡ 9
+        pub read-9 : pagesOf g (front g image) r * g .page < o + n → readNo g image index r d o n ≡ 9
         read-9 l = on-last ∙ halt (ask9 g image index r o n) _ (λ h. omega arith)
 
-        pub read-7 : o + n ≤ pagesOf g (front g image) r * g .page → touchedRight g (front g image) index r o n ≡ false → readNo g image index r o n ≡ 7
+        pub read-7 : o + n ≤ pagesOf g (front g image) r * g .page → touchedRight g (front g image) index r o n ≡ false → readNo g image index r d o n ≡ 7
         read-7 l e =
             on-last ∙ pass (ask9 g image index r o n) _ l
             ∙ halt (ask7of g image index r o n) _ (λ h. clash (touchedRight g (front g image) index r o n) h e)
 
-    pub read-8 : Entered g image index → usable g (front g image) r ≡ false → readNo g image index r o n ≡ 8
-    read-8 E u = read-book E 8 (sym (book-8 g image r u)) (omega arith)
+    pub read-8 : Entered g image index → usable g (front g image) r ≡ false → readNo g image index r d o n ≡ 8
+    read-8 E u = read-book E 8 (sym (book-8 g image r d u)) (omega arith)
 
-    pub read-0 : Reads g image index r o n → readNo g image index r o n ≡ 0
-    read-0 F =
-        on-last (F .entered) (F .usable) (F .fits) ∙ pass (ask9 g image index r o n) _ (F .within) ∙ pass (ask7of g image index r o n) _ (F .right)
+    pub read-18 : Entered g image index → usable g (front g image) r ≡ true → editionOf g (front g image) r ≢ d → readNo g image index r d o n ≡ 18
+    read-18 E u ne = read-book E 18 (sym (book-18 g image r d u ne)) (omega arith)
+
+    pub read-0 : Reads g image index r o n → editionOf g (front g image) r ≡ d → readNo g image index r d o n ≡ 0
+    read-0 F e =
+        on-last (F .entered) (record { usable = F .usable; edition = e }) (F .fits) ∙ pass (ask9 g image index r o n) _ (F .within) ∙ pass (ask7of g image index r o n) _ (F .right)
         ∙ first-nil
 
-  module _ (r o : ℕ) (xs : List ℕ) where
-    pub load-accepted : refusal g image index (load r o xs) ≡ 0 → Reads g image index r o (length xs)
-    load-accepted e = read-accepted r o (length xs) (sym (load-number r o xs) ∙ e)
+  module _ (r d o : ℕ) (xs : List ℕ) where
+    pub load-accepted : refusal g image index (load r d o xs) ≡ 0 → Reads g image index r o (length xs) × (editionOf g (front g image) r ≡ d)
+    load-accepted e = read-accepted r d o (length xs) (sym (load-number r d o xs) ∙ e)
 
-    pub accepts-load : Reads g image index r o (length xs) → refusal g image index (load r o xs) ≡ 0
-    accepts-load F = load-number r o xs ∙ read-0 r o (length xs) F
+    pub accepts-load : Reads g image index r o (length xs) → editionOf g (front g image) r ≡ d → refusal g image index (load r d o xs) ≡ 0
+    accepts-load F e = load-number r d o xs ∙ read-0 r d o (length xs) F e
 
-    pub store-accepted : refusal g image index (store r o xs) ≡ 0 → Reads g image index r o (length xs)
-    store-accepted e = read-accepted r o (length xs) (sym (store-number r o xs) ∙ e)
+    pub store-accepted : refusal g image index (store r d o xs) ≡ 0 → Reads g image index r o (length xs) × (editionOf g (front g image) r ≡ d)
+    store-accepted e = read-accepted r d o (length xs) (sym (store-number r d o xs) ∙ e)
 
-    pub accepts-store : Reads g image index r o (length xs) → refusal g image index (store r o xs) ≡ 0
-    accepts-store F = store-number r o xs ∙ read-0 r o (length xs) F
+    pub accepts-store : Reads g image index r o (length xs) → editionOf g (front g image) r ≡ d → refusal g image index (store r d o xs) ≡ 0
+    accepts-store F e = store-number r d o xs ∙ read-0 r d o (length xs) F e
 
-  -- ---- size: 1, 3, 4, 5, 8, 6
-  module _ (r : ℕ) where
+  -- ---- size: 1, 3, 4, 5, 8, 18, 6
+  module _ (r d : ℕ) where
     abbrev sizing : List Check
     sizing = no1 g image [] ∷ no3 g image [] ∷ no4 g image [] ∷ no5 g image [] ∷ []
 
-    pub size-stop : (k : ℕ) → k ≡ wholeNo g image → k ≢ 0 → refusal g image index (size r) ≡ k
+    pub size-stop : (k : ℕ) → k ≡ wholeNo g image → k ≢ 0 → refusal g image index (size r d) ≡ k
     unfolding wholeNo checks
-    size-stop k e ne = first-stop sizing (ofBook g image [] r []) refl k (sym e) ne
+    size-stop k e ne = first-stop sizing (ofBook g image [] r d []) refl k (sym e) ne
 
-    pub size-on : Whole g image → refusal g image index (size r) ≡ bookNo g image r
+    pub size-on : Whole g image → refusal g image index (size r d) ≡ bookNo g image r d
     unfolding bookNo checks
-    size-on W = whole-line g image (no5 g image [] ∷ ofBook g image [] r []) (W .headed) ∙ pass (ask5 g image []) _ (W .tail)
+    size-on W = whole-line g image (no5 g image [] ∷ ofBook g image [] r d []) (W .headed) ∙ pass (ask5 g image []) _ (W .tail)
 
-    pub size-accepted : refusal g image index (size r) ≡ 0
-        → Whole g image × (usable g (front g image) r ≡ true) × (pagesOf g (front g image) r ≤ mostBookPages g)
+    pub size-accepted : refusal g image index (size r d) ≡ 0
+        → Whole g image × IsBook g (front g image) r d × (pagesOf g (front g image) r ≤ mostBookPages g)
     unfolding checks
     size-accepted e =
         let f1 = shown (ask1 g image []) _ (omega arith) e in
         let f3 = shown (ask3 g image []) _ (omega arith) (f1 .1) in
         let f4 = shown (ask4 g image []) _ (omega arith) (f3 .1) in
         let f5 = shown (ask5 g image []) _ (omega arith) (f4 .1) in
-        let f8 = shown (ask8 g image [] r) _ (omega arith) (f5 .1) in (
+        let f8 = shown (ask8 g image [] r) _ (omega arith) (f5 .1) in
+        let f18 = shown (ask18 g image [] r d) _ (omega arith) (f8 .1) in (
           record { headed = record { readable = record { allowed = f1 .0; long = f3 .0 }; header = f4 .0 }; tail = f5 .0 },
-          f8 .0,
-          shown (ask6of g image [] r) _ (omega arith) (f8 .1) .0,
+          record { usable = f8 .0; edition = f18 .0 },
+          shown (ask6of g image [] r) _ (omega arith) (f18 .1) .0,
         )
 
 -- lay's look at the header is one at the front
@@ -682,51 +713,51 @@ blank-front g image =
 pub line-same : (g : Geometry) (image later index : List ℕ) (c : Call) → inspects c ≡ false → length image ≡ length later → front g image ≡ front g later
     → refusal g later index c ≡ refusal g image index c
 unfolding checks
-line-same g image later index lay ne l f =
+line-same g image later index (lay v) ne l f =
     let same : blank g later ≡ blank g image = blank-front g later ∙ rw (← f) (sym (blank-front g image)) in
     rw (l, same)
 line-same g image later index «open» ne l f = rw (l, f)
-line-same g image later index (grow r n) ne l f = rw (l, f)
-line-same g image later index (load r o b) ne l f = rw (l, f)
-line-same g image later index (store r o b) ne l f = rw (l, f)
-line-same g image later index (look r o) ne l f = rw (l, f)
-line-same g image later index (size r) ne l f = rw (l, f)
-line-same g image later index (release r) ne l f = rw (l, f)
+line-same g image later index (grow r d n) ne l f = rw (l, f)
+line-same g image later index (load r d o b) ne l f = rw (l, f)
+line-same g image later index (store r d o b) ne l f = rw (l, f)
+line-same g image later index (look r d o) ne l f = rw (l, f)
+line-same g image later index (size r d) ne l f = rw (l, f)
+line-same g image later index (release r d) ne l f = rw (l, f)
 line-same g image later index recover ne l f = clash true refl ne
 
-pub load-same : (g : Geometry) (image later index : List ℕ) (r o : ℕ) (xs : List ℕ) → length image ≡ length later → front g image ≡ front g later
-    → refusal g later index (load r o xs) ≡ refusal g image index (load r o xs)
-load-same g image later index r o xs l f = line-same g image later index (load r o xs) refl l f
+pub load-same : (g : Geometry) (image later index : List ℕ) (r d o : ℕ) (xs : List ℕ) → length image ≡ length later → front g image ≡ front g later
+    → refusal g later index (load r d o xs) ≡ refusal g image index (load r d o xs)
+load-same g image later index r d o xs l f = line-same g image later index (load r d o xs) refl l f
 
 -- the checks of size see the image alone
-pub size-alone : (g : Geometry) (image index other : List ℕ) (r : ℕ) → refusal g image index (size r) ≡ refusal g image other (size r)
+pub size-alone : (g : Geometry) (image index other : List ℕ) (r d : ℕ) → refusal g image index (size r d) ≡ refusal g image other (size r d)
 unfolding checks
-size-alone g image index other r = refl
+size-alone g image index other r d = refl
 
 -- every line begins with 1
 pub refused-1 : (g : Geometry) (image index : List ℕ) → allowed g ≡ false → (c : Call) → refusal g image index c ≡ 1
 unfolding checks
-refused-1 g image index a lay = halt (ask1 g image index) _ (λ A. clash (allowed g) (facts-allowed g A) a)
+refused-1 g image index a (lay v) = halt (ask1 g image index) _ (λ A. clash (allowed g) (facts-allowed g A) a)
 refused-1 g image index a «open» = halt (ask1 g image index) _ (λ A. clash (allowed g) (facts-allowed g A) a)
-refused-1 g image index a (grow r n) = halt (ask1 g image index) _ (λ A. clash (allowed g) (facts-allowed g A) a)
-refused-1 g image index a (load r o b) = halt (ask1 g image index) _ (λ A. clash (allowed g) (facts-allowed g A) a)
-refused-1 g image index a (store r o b) = halt (ask1 g image index) _ (λ A. clash (allowed g) (facts-allowed g A) a)
-refused-1 g image index a (look r o) = halt (ask1 g image index) _ (λ A. clash (allowed g) (facts-allowed g A) a)
-refused-1 g image index a (size r) = halt (ask1 g image index) _ (λ A. clash (allowed g) (facts-allowed g A) a)
-refused-1 g image index a (release r) = halt (ask1 g image index) _ (λ A. clash (allowed g) (facts-allowed g A) a)
+refused-1 g image index a (grow r d n) = halt (ask1 g image index) _ (λ A. clash (allowed g) (facts-allowed g A) a)
+refused-1 g image index a (load r d o b) = halt (ask1 g image index) _ (λ A. clash (allowed g) (facts-allowed g A) a)
+refused-1 g image index a (store r d o b) = halt (ask1 g image index) _ (λ A. clash (allowed g) (facts-allowed g A) a)
+refused-1 g image index a (look r d o) = halt (ask1 g image index) _ (λ A. clash (allowed g) (facts-allowed g A) a)
+refused-1 g image index a (size r d) = halt (ask1 g image index) _ (λ A. clash (allowed g) (facts-allowed g A) a)
+refused-1 g image index a (release r d) = halt (ask1 g image index) _ (λ A. clash (allowed g) (facts-allowed g A) a)
 refused-1 g image index a recover = halt (ask1 g image index) _ (λ A. clash (allowed g) (facts-allowed g A) a)
 
 -- ---- a call is refused with k exactly where the checks before k's pass and its test refuses
 line-distinct : (g : Geometry) (image index : List ℕ) (c : Call) → distinct (checks g image index c) ≡ true
 unfolding checks
-line-distinct g image index lay = refl
+line-distinct g image index (lay v) = refl
 line-distinct g image index «open» = refl
-line-distinct g image index (grow r n) = refl
-line-distinct g image index (load r o b) = refl
-line-distinct g image index (store r o b) = refl
-line-distinct g image index (look r o) = refl
-line-distinct g image index (size r) = refl
-line-distinct g image index (release r) = refl
+line-distinct g image index (grow r d n) = refl
+line-distinct g image index (load r d o b) = refl
+line-distinct g image index (store r d o b) = refl
+line-distinct g image index (look r d o) = refl
+line-distinct g image index (size r d) = refl
+line-distinct g image index (release r d) = refl
 line-distinct g image index recover = refl
 
 pub refused-exactly : (g : Geometry) (image index : List ℕ) (c : Call) (cs : List Check) (d : Check) (ds : List Check)
@@ -746,7 +777,7 @@ module _ (g : Geometry) (c : Call) (s : State) where
 -- a move refused, and one that is done
 module _ (g : Geometry) (n : ℕ) (s : State) where
   pub move-done : moveRefusal g n (s .image) (s .index) ≡ 0
-      → moveOutcome g n s ≡ gives (Done 0) [] (lent (movedImage g n (s .image)) (indexOf g (movedFront g n)))
+      → moveOutcome g n s ≡ gives (Done 0) [] (lent (movedImage g n (s .image)) (indexOf g (movedFront g Two n)))
   unfolding moveOutcome
   move-done e = rw e
 
@@ -762,9 +793,10 @@ module _ (g : Geometry) (n : ℕ) (s : State) where
       go (no ne) = rw (move-refused (moveRefusal g n (s .image) (s .index)) refl ne)
 
 module _ (g : Geometry) (s : State) where
-  pub lay-done : refusal g (s .image) (s .index) lay ≡ 0 → outcome g lay s ≡ gives (Done 0) [] (lent (laid g ++ rest g (blanked g (s .image))) (emptyIndex g))
+  pub lay-done : (v : Version) → refusal g (s .image) (s .index) (lay v) ≡ 0
+      → outcome g (lay v) s ≡ gives (Done 0) [] (lent (laid g v ++ rest g (blanked g (s .image))) (emptyIndex g))
   unfolding accepted
-  lay-done e = outcome-done g lay s e
+  lay-done v e = outcome-done g (lay v) s e
 
   pub recover-done : refusal g (s .image) (s .index) recover ≡ 0
       → outcome g recover s ≡ gives (Done 0) [] (lent (s .image) (indexOf g (front g (s .image))))
@@ -772,68 +804,97 @@ module _ (g : Geometry) (s : State) where
   recover-done e = outcome-done g recover s e
 
   pub open-done : refusal g (s .image) (s .index) «open» ≡ 0
-      → outcome g «open» s ≡ gives (Done (nextRegion g (front g (s .image)))) [] (tabled g (opened g (front g (s .image))) (s .image))
+      → outcome g «open» s ≡ gives (opening (nextRegion g (front g (s .image))) (editionOf g (front g (s .image)) (nextRegion g (front g (s .image))))) []
+      (tabled g (opened g (front g (s .image))) (s .image))
   unfolding accepted
   open-done e = outcome-done g «open» s e
 
-  pub grow-done : (r n : ℕ) → refusal g (s .image) (s .index) (grow r n) ≡ 0
-      → outcome g (grow r n) s
+  pub grow-done : (r d n : ℕ) → refusal g (s .image) (s .index) (grow r d n) ≡ 0
+      → outcome g (grow r d n) s
       ≡ gives (Done (pagesOf g (front g (s .image)) r)) [] (lent (grown g r n (s .image)) (indexOf g (front g (grown g r n (s .image)))))
   unfolding accepted
-  grow-done r n e = outcome-done g (grow r n) s e
+  grow-done r d n e = outcome-done g (grow r d n) s e
 
-  pub release-done : (r : ℕ) → refusal g (s .image) (s .index) (release r) ≡ 0
-      → outcome g (release r) s ≡ gives (Done 0) [] (tabled g (released g r (front g (s .image))) (s .image))
+  pub release-done : (r d : ℕ) → refusal g (s .image) (s .index) (release r d) ≡ 0
+      → outcome g (release r d) s ≡ gives (Done 0) [] (tabled g (released g r (front g (s .image))) (s .image))
   unfolding accepted
-  release-done r e = outcome-done g (release r) s e
+  release-done r d e = outcome-done g (release r d) s e
 
-  pub load-done : (r o : ℕ) (b : List ℕ) → refusal g (s .image) (s .index) (load r o b) ≡ 0
-      → outcome g (load r o b) s ≡ gives (Done 0) (loaded g (blockIn g (s .index) r) o (length b) (s .image)) s
+  pub load-done : (r d o : ℕ) (b : List ℕ) → refusal g (s .image) (s .index) (load r d o b) ≡ 0
+      → outcome g (load r d o b) s ≡ gives (Done 0) (loaded g (blockIn g (s .index) r) o (length b) (s .image)) s
   unfolding accepted
-  load-done r o b e = outcome-done g (load r o b) s e
+  load-done r d o b e = outcome-done g (load r d o b) s e
 
-  pub store-done : (r o : ℕ) (ys : List ℕ) → refusal g (s .image) (s .index) (store r o ys) ≡ 0
-      → outcome g (store r o ys) s
+  pub store-done : (r d o : ℕ) (ys : List ℕ) → refusal g (s .image) (s .index) (store r d o ys) ≡ 0
+      → outcome g (store r d o ys) s
       ≡ gives (Done 0) [] (lent (stored g (blockIn g (s .index) r) (needOf g (front g (s .image)) r) o ys (s .image)) (s .index))
   unfolding accepted
-  store-done r o ys e = outcome-done g (store r o ys) s e
+  store-done r d o ys e = outcome-done g (store r d o ys) s e
 
-  pub size-done : (r : ℕ) → refusal g (s .image) (s .index) (size r) ≡ 0 → outcome g (size r) s ≡ gives (Done (pagesOf g (front g (s .image)) r)) [] s
+  pub size-done : (r d : ℕ) → refusal g (s .image) (s .index) (size r d) ≡ 0 → outcome g (size r d) s ≡ gives (Done (pagesOf g (front g (s .image)) r)) [] s
   unfolding accepted
-  size-done r e = outcome-done g (size r) s e
+  size-done r d e = outcome-done g (size r d) s e
 
   -- look's part, unless the offset is the end or a load of one byte would be refused
-  pub look-done : (r o : ℕ) → refusal g (s .image) (s .index) (look r o) ≡ 0
-      → outcome g (look r o) s
+  pub look-done : (r d o : ℕ) → refusal g (s .image) (s .index) (look r d o) ≡ 0
+      → outcome g (look r d o) s
       ≡ gives (Done 0)
-      (cond (eqb o (pagesOf g (front g (s .image)) r * g .page) || not (eqb (readNo g (s .image) (s .index) r o 1) 0)) []
+      (cond (eqb o (pagesOf g (front g (s .image)) r * g .page) || not (eqb (readNo g (s .image) (s .index) r d o 1) 0)) []
       (loaded g (blockIn g (s .index) r) o (lookBytes g (front g (s .image)) r o) (s .image)))
       s
   unfolding accepted readNo checks
-  look-done r o e = outcome-done g (look r o) s e
+  look-done r d o e = outcome-done g (look r d o) s e
 
--- the answer of an accepted call: "done", and the paper's number and value of its case
+-- the answer of an accepted call: "done", and the paper's number, value and edition of its case
 pub accepted-paper : (g : Geometry) (c : Call) (s : State)
     → (accepted g c s .number ≡ numberOf (accepted g c s .answer)) × (accepted g c s .value ≡ valueOf (accepted g c s .answer))
+    × (accepted g c s .edition ≡ editionIn (accepted g c s .answer))
 unfolding accepted
-accepted-paper g lay s = (refl, refl)
-accepted-paper g «open» s = (refl, refl)
-accepted-paper g (grow r n) s = (refl, refl)
-accepted-paper g (load r o b) s = (refl, refl)
-accepted-paper g (store r o b) s = (refl, refl)
-accepted-paper g (look r o) s = (refl, refl)
-accepted-paper g (size r) s = (refl, refl)
-accepted-paper g (release r) s = (refl, refl)
-accepted-paper g recover s = (refl, refl)
+accepted-paper g (lay v) s = (refl, refl, refl)
+accepted-paper g «open» s = (refl, refl, refl)
+accepted-paper g (grow r d n) s = (refl, refl, refl)
+accepted-paper g (load r d o b) s = (refl, refl, refl)
+accepted-paper g (store r d o b) s = (refl, refl, refl)
+accepted-paper g (look r d o) s = (refl, refl, refl)
+accepted-paper g (size r d) s = (refl, refl, refl)
+accepted-paper g (release r d) s = (refl, refl, refl)
+accepted-paper g recover s = (refl, refl, refl)
 
 pub accepted-number : (g : Geometry) (c : Call) (s : State) → accepted g c s .number ≡ 0
 unfolding accepted
-accepted-number g lay s = refl
+accepted-number g (lay v) s = refl
 accepted-number g «open» s = refl
-accepted-number g (grow r n) s = refl
-accepted-number g (load r o b) s = refl
-accepted-number g (store r o b) s = refl
-accepted-number g (look r o) s = refl
-accepted-number g (size r) s = refl
-accepted-number g (release r) s = refl
+accepted-number g (grow r d n) s = refl
+accepted-number g (load r d o b) s = refl
+accepted-number g (store r d o b) s = refl
+accepted-number g (look r d o) s = refl
+accepted-number g (size r d) s = refl
+accepted-number g (release r d) s = refl
 accepted-number g recover s = refl
+
+-- only an open gives a book
+not-opened : {A : Type 0} (v r e : ℕ) → Done v ≡ opening r e → A
+not-opened v r e d = let z : _≡_ {A = ℕ} 0 1 = cc in absurd (omega arith)
+
+accepted-opens : (g : Geometry) (c : Call) (s : State) (r e : ℕ) → accepted g c s .answer ≡ opening r e → c ≡ «open»
+unfolding accepted
+accepted-opens g (lay v) s r e d = not-opened 0 r e d
+accepted-opens g «open» s r e d = refl
+accepted-opens g (grow q x n) s r e d = not-opened _ r e d
+accepted-opens g (load q x o b) s r e d = not-opened 0 r e d
+accepted-opens g (store q x o b) s r e d = not-opened 0 r e d
+accepted-opens g (look q x o) s r e d = not-opened 0 r e d
+accepted-opens g (size q x) s r e d = not-opened _ r e d
+accepted-opens g (release q x) s r e d = not-opened 0 r e d
+accepted-opens g recover s r e d = not-opened 0 r e d
+
+pub only-open : (g : Geometry) (c : Call) (s : State) (r e : ℕ) → outcome g c s .answer ≡ opening r e → c ≡ «open»
+only-open g c s r e d = go (ℕ-discrete (refusal g (s .image) (s .index) c) 0)
+  where
+    go : Dec (refusal g (s .image) (s .index) c ≡ 0) → c ≡ «open»
+    go (yes z) = accepted-opens g c s r e (sym (ap (λ o. o .answer) (outcome-done g c s z)) ∙ d)
+    go (no ne) =
+        let k = refusal g (s .image) (s .index) c in
+        let z : Refused k ≡ opening r e = sym (ap (λ o. o .answer) (refused g c s k refl ne)) ∙ d in
+        let w : _≡_ {A = ℕ} 0 1 = cc in
+        absurd (omega arith)

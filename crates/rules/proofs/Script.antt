@@ -11,25 +11,25 @@ use Rattle.paper.specs.Script.{called}
 use Rattle.rules.specs.Lines.{readNo}
 use Rattle.rules.proofs.Lines.{load-number, refused, load-done}
 
-pub buffer-replaced : (r o : ℕ) (xs ys : List ℕ) (s : State) → length xs ≡ length ys → called (load r o xs) s ≡ called (load r o ys) s
+pub buffer-replaced : (r d o : ℕ) (xs ys : List ℕ) (s : State) → length xs ≡ length ys → called (load r d o xs) s ≡ called (load r d o ys) s
 unfolding called
-buffer-replaced r o xs ys s e = go (ℕ-discrete k 0)
+buffer-replaced r d o xs ys s e = go (ℕ-discrete k 0)
   where
     k : ℕ
-    k = readNo bench (s .image) (s .index) r o (length ys)
+    k = readNo bench (s .image) (s .index) r d o (length ys)
 
-    x : readNo bench (s .image) (s .index) r o (length xs) ≡ readNo bench (s .image) (s .index) r o (length ys)
+    x : readNo bench (s .image) (s .index) r d o (length xs) ≡ readNo bench (s .image) (s .index) r d o (length ys)
     x = rw e
 
-    go : Dec (readNo bench (s .image) (s .index) r o (length ys) ≡ 0) → called (load r o xs) s ≡ called (load r o ys) s
+    go : Dec (readNo bench (s .image) (s .index) r d o (length ys) ≡ 0) → called (load r d o xs) s ≡ called (load r d o ys) s
     go (yes z) =
         rw (
-          load-done bench s r o xs (load-number bench (s .image) (s .index) r o xs ∙ x ∙ z),
-          load-done bench s r o ys (load-number bench (s .image) (s .index) r o ys ∙ z),
+          load-done bench s r d o xs (load-number bench (s .image) (s .index) r d o xs ∙ x ∙ z),
+          load-done bench s r d o ys (load-number bench (s .image) (s .index) r d o ys ∙ z),
           e,
         )
     go (no ne) =
         rw (
-          refused bench (load r o xs) s k (load-number bench (s .image) (s .index) r o xs ∙ x) ne,
-          refused bench (load r o ys) s k (load-number bench (s .image) (s .index) r o ys) ne,
+          refused bench (load r d o xs) s k (load-number bench (s .image) (s .index) r d o xs ∙ x) ne,
+          refused bench (load r d o ys) s k (load-number bench (s .image) (s .index) r d o ys) ne,
         )

@@ -89,7 +89,7 @@ module _ (g : Geometry) (t : List ℕ) where
 
   -- ---- where no region from C on is open, only those below C count
   module _ (high : High g t) where
-    given-open : (r : ℕ) → given g t ≤ r → isOpen g t r ≡ false
+    pub given-open : (r : ℕ) → given g t ≤ r → isOpen g t r ≡ false
     given-open r h = go (decLt r (g .entries))
       where
         go : Dec (r < g .entries) → isOpen g t r ≡ false

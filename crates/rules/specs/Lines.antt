@@ -14,9 +14,9 @@ module _ (g : Geometry) (image : List ℕ) where
   unfoldable pub wholeNo : ℕ
   wholeNo = first (no1 g image [] ∷ no3 g image [] ∷ no4 g image [] ∷ no5 g image [] ∷ [])
 
-  -- 8 and 6, of one book
-  unfoldable pub bookNo : ℕ → ℕ
-  bookNo r = first (ofBook g image [] r [])
+  -- 8, 18 and 6, of one book
+  unfoldable pub bookNo : ℕ → ℕ → ℕ
+  bookNo r e = first (ofBook g image [] r e [])
 
 -- ---- with one
 module _ (g : Geometry) (image index : List ℕ) where
@@ -37,5 +37,5 @@ module _ (g : Geometry) (image index : List ℕ) where
   orderedNo = first (to7 g image index [])
 
   -- the whole line of load, store and look, for n bytes at offset o of region r
-  unfoldable pub readNo : ℕ → ℕ → ℕ → ℕ
-  readNo r o n = first (reading g image index r o n)
+  unfoldable pub readNo : ℕ → ℕ → ℕ → ℕ → ℕ
+  readNo r e o n = first (reading g image index r e o n)

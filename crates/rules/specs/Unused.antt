@@ -11,26 +11,26 @@ use Rattle.paper.specs.Outcomes.{Outcome}
 
 -- lay writes it
 abbrev pub blanks : Call → Bool
-blanks lay = true
+blanks (lay v) = true
 blanks «open» = false
-blanks (grow r n) = false
-blanks (load r o buffer) = false
-blanks (store r o bytes) = false
-blanks (look r o) = false
-blanks (size r) = false
-blanks (release r) = false
+blanks (grow r e n) = false
+blanks (load r e o buffer) = false
+blanks (store r e o bytes) = false
+blanks (look r e o) = false
+blanks (size r e) = false
+blanks (release r e) = false
 blanks recover = false
 
 -- recovery looks at it
 abbrev pub inspects : Call → Bool
-inspects lay = false
+inspects (lay v) = false
 inspects «open» = false
-inspects (grow r n) = false
-inspects (load r o buffer) = false
-inspects (store r o bytes) = false
-inspects (look r o) = false
-inspects (size r) = false
-inspects (release r) = false
+inspects (grow r e n) = false
+inspects (load r e o buffer) = false
+inspects (store r e o bytes) = false
+inspects (look r e o) = false
+inspects (size r e) = false
+inspects (release r e) = false
 inspects recover = true
 
 pub record Alike (g : Geometry) (image other : List ℕ) : Type 0 where

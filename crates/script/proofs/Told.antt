@@ -7,7 +7,7 @@ use borrow.Author.Tests.{lt-ltb, le-ltb, ne-eqb}
 use lib.ListN.{length, getD}
 use Rattle.laws.proofs.Bytes.{num-one}
 use Rattle.paper.specs.declared.Answer.{Answer}
-use Rattle.paper.specs.declared.Answer.the-variants.{Done, Refused}
+use Rattle.paper.specs.declared.Answer.the-variants.{Done}
 use Rattle.paper.specs.Geometry.{bench}
 use Rattle.paper.specs.Calls.{Call, load, size}
 use Rattle.paper.specs.Outcomes.{State, lent, gives, outcome}
@@ -19,18 +19,18 @@ pub call-kept : (c : Call) (a : Answer) (bytes : List ℕ) (s t : State) → giv
 unfolding called
 call-kept c a bytes s t e = ap (λ o. tells (answerOf c o) (o .state)) e
 
--- a load that is refused, and one that is done and has n for the sum of its bytes
-module _ (r o : ℕ) (buffer bytes : List ℕ) (a : Answer) (s : State) (kept : gives a bytes s ≡ outcome bench (load r o buffer) s) where
-  pub load-refused : (k : ℕ) → a ≡ Refused k → tells a s ≡ called (load r o buffer) s
-  load-refused k e = ap (λ x. tells x s) (e ∙ ap (summed bytes) (sym e)) ∙ call-kept (load r o buffer) a bytes s s kept
+-- a load that answers anything but "done", and one that is done and has n for the sum of its bytes
+module _ (r d o : ℕ) (buffer bytes : List ℕ) (a : Answer) (s : State) (kept : gives a bytes s ≡ outcome bench (load r d o buffer) s) where
+  pub load-other : summed bytes a ≡ a → tells a s ≡ called (load r d o buffer) s
+  load-other e = ap (λ x. tells x s) (sym e) ∙ call-kept (load r d o buffer) a bytes s s kept
 
-  pub load-done : (v n : ℕ) → a ≡ Done v → n ≡ sumOf bytes → tells (Done n) s ≡ called (load r o buffer) s
-  load-done v n e f = ap (λ x. tells x s) (ap Done f ∙ ap (summed bytes) (sym e)) ∙ call-kept (load r o buffer) a bytes s s kept
+  pub load-done : (v n : ℕ) → a ≡ Done v → n ≡ sumOf bytes → tells (Done n) s ≡ called (load r d o buffer) s
+  load-done v n e f = ap (λ x. tells x s) (ap Done f ∙ ap (summed bytes) (sym e)) ∙ call-kept (load r d o buffer) a bytes s s kept
 
 -- size takes no index, and leaves the one that there is
-pub size-kept : (r : ℕ) (a : Answer) (image index : List ℕ)
-    → gives a [] (lent image []) ≡ outcome bench (size r) (lent image []) → tells a (lent image index) ≡ called (size r) (lent image index)
-size-kept r a image index e = call-kept (size r) a [] (lent image index) (lent image index) (size-any-index bench image [] index r a e)
+pub size-kept : (r d : ℕ) (a : Answer) (image index : List ℕ)
+    → gives a [] (lent image []) ≡ outcome bench (size r d) (lent image []) → tells a (lent image index) ≡ called (size r d) (lent image index)
+size-kept r d a image index e = call-kept (size r d) a [] (lent image index) (lent image index) (size-any-index bench image [] index r d a e)
 
 -- ---- a record
 module _ (r : List ℕ) (s : State) where

@@ -1,19 +1,24 @@
-// The script program: lays a zeroed image in BENCH, then does what the records of 16 bytes on standard input say, a line for each.
+// The script program: lays a zeroed image in BENCH, of version 2, then does what the records of 16 bytes on standard input say, a line for each.
 ghost use mathlib.Core.Path.{_≡_};
 ghost use Prim.Native.Nat.{_≤_};
 ghost use lib.ListN.{length, replicate};
 ghost use Rattle.paper.specs.Calls.{load, store};
 ghost use Rattle.paper.specs.Outcomes.{lent};
-ghost use Rattle.paper.specs.Script.{scriptStart, recordBytes, operationIn, lengthIn, operations, tells, sumOf, called, mostLength, among, told};
+ghost use Rattle.paper.specs.Script.{scriptStart, recordBytes, operationIn, lengthIn, operations, lineOf, tells, sumOf, called, mostLength, among, told};
 use libc::STDIN_FILENO;
 use libc::STDOUT_FILENO;
 use paper::Answer;
+use paper::Edition;
 use paper::Geometry;
 use paper::Offset;
 use paper::Pages;
 use paper::Region;
+use paper::Version;
 
 const G: Geometry = Geometry::BENCH;
+
+// The only edition that version 2 has.
+const EDITION: Edition = Edition(0);
 
 // The bytes that are lent.
 const IMAGE: usize = 8704;
@@ -89,22 +94,26 @@ fn store(
     b: u8,
     bytes: &mut [u8],
 ) -> Answer
-    ensures { λ a. ⌜ tells a (lent (now (image .exit)) (now (index .entry))) ≡ called (store (region .0) (offset .0) (replicate (length (now (bytes .entry))) b)) (lent (now (image .entry)) (now (index .entry))) ⌝ }
+    ensures { λ a. ⌜ tells a (lent (now (image .exit)) (now (index .entry))) ≡ called (store (region .0) 0 (offset .0) (replicate (length (now (bytes .entry))) b)) (lent (now (image .entry)) (now (index .entry))) ⌝ }
 {
     numbers::fill(bytes, b);
-    contents::store(G, image, index, region, offset, bytes)
+    contents::store(G, image, index, region, EDITION, offset, bytes)
 }
 
 // A load answers the sum of its bytes.
 fn load(image: &[u8], index: &[u8], region: Region, offset: Offset, bytes: &mut [u8]) -> Answer
     requires { ⌜ length (now bytes) ≤ mostLength ⌝ }
-    ensures { λ a. ⌜ tells a (lent (now (image .entry)) (now (index .entry))) ≡ called (load (region .0) (offset .0) (now (bytes .entry))) (lent (now (image .entry)) (now (index .entry))) ⌝ }
+    ensures { λ a. ⌜ tells a (lent (now (image .entry)) (now (index .entry))) ≡ called (load (region .0) 0 (offset .0) (now (bytes .entry))) (lent (now (image .entry)) (now (index .entry))) ⌝ }
 {
-    let a = contents::load(G, image, index, region, offset, bytes);
-    let Answer::Done(_) = a else {
-        return a;
-    };
-    Answer::Done(sum(bytes))
+    let a = contents::load(G, image, index, region, EDITION, offset, bytes);
+    match a {
+        Answer::Done(_) => Answer::Done(sum(bytes)),
+        Answer::Opened {
+            region: _,
+            edition: _,
+        } => a,
+        Answer::Refused(_) => a,
+    }
 }
 
 // The operation of a record that is whole and not too long.
@@ -121,7 +130,7 @@ fn operate(image: &mut [u8], index: &mut [u8], step: &[u8]) -> Answer
         return books::open(G, image, index);
     }
     if operation == GROW {
-        return books::grow(G, image, index, region, Pages(number));
+        return books::grow(G, image, index, region, EDITION, Pages(number));
     }
     if operation == STORE {
         let b = step[FILL_AT];
@@ -131,10 +140,10 @@ fn operate(image: &mut [u8], index: &mut [u8], step: &[u8]) -> Answer
         return load(image, index, region, Offset(number), &mut buffer[0..n]);
     }
     if operation == RELEASE {
-        return books::release(G, image, index, region);
+        return books::release(G, image, index, region, EDITION);
     }
     if operation == SIZE {
-        return desk::size(G, image, region);
+        return desk::size(G, image, region, EDITION);
     }
     if operation == RECOVER {
         return recovery::recover(G, image, index);
@@ -155,6 +164,16 @@ fn perform(image: &mut [u8], index: &mut [u8], step: &[u8]) -> Answer
     operate(image, index, step)
 }
 
+// The answer with the same line: of an open it has the region alone.
+fn valued(a: Answer) -> Answer
+    ensures { λ b. ⌜ lineOf b ≡ lineOf a ⌝ }
+{
+    let Answer::Opened { region, edition: _ } = a else {
+        return a;
+    };
+    Answer::Done(region.0 as u64)
+}
+
 // Nothing says that the input ends, so the turns are counted down, from a number that no run uses up.
 fn run(image: &mut [u8], index: &mut [u8])
     requires { ⌜ lent (now image) (now index) ≡ scriptStart ⌝ }
@@ -167,7 +186,7 @@ fn run(image: &mut [u8], index: &mut [u8])
         if got == 0 {
             return;
         }
-        let a = perform(image, index, &step[0..got]);
+        let a = valued(perform(image, index, &step[0..got]));
         let Answer::Done(v) = a else {
             print_refusal(a);
             continue;
@@ -179,7 +198,7 @@ fn run(image: &mut [u8], index: &mut [u8])
 fn main() {
     let mut image = [0u8; IMAGE];
     let mut index = [0u8; INDEX];
-    let Answer::Done(_) = laying::lay(G, &mut image, &mut index) else {
+    let Answer::Done(_) = laying::lay(G, Version::Two, &mut image, &mut index) else {
         return;
     };
     run(&mut image, &mut index);

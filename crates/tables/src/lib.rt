@@ -4,7 +4,7 @@ ghost use Prim.Native.Nat.{ℕ, _+_, _≤_, _<_};
 ghost use Rattle.laws.specs.Folds.{steps};
 ghost use Rattle.paper.specs.Image.{front, taken, owner, place, needOf};
 ghost use Rattle.paper.specs.Geometry.{reclaimed};
-ghost use Rattle.paper.specs.Calls.{lowestNotOpen, nextRegion, opened, released, reclaiming, raised};
+ghost use Rattle.paper.specs.Calls.{openable, lowestOpenable, nextRegion, opened, released, reclaiming, raised};
 ghost use Rattle.tables.specs.Grant.{stockOf, nextBlock, blockAfter, drawn, placed, Found, FoundAt, Grantable};
 ghost use Rattle.tables.specs.Steps.{Releasable};
 ghost use Rattle.rules.specs.Facts.{Readable, fronted, Indexed};
@@ -131,7 +131,7 @@ fn reclaim_blocks(g: Geometry, image: &mut [u8], region: Region, spare: u64)
     }
 }
 
-// The book's blocks to region 1, in position order, and the region not open.
+// The book's blocks to region 1, in position order, and the region not open, with its next edition.
 pub fn release_tables(g: Geometry, image: &mut [u8], region: Region)
     requires { ⌜ Readable g (now image) ⌝ }
     requires { ⌜ Releasable g (front g (now image)) (region .0) ⌝ }
@@ -145,15 +145,27 @@ pub fn release_tables(g: Geometry, image: &mut [u8], region: Region)
     image::set_not_open(g, image, region);
 }
 
-// The lowest region from 16 to E-2 that is not open, or E-1 where there is none.
-fn lowest_not_open(g: Geometry, image: &[u8]) -> Region
+// Not open, and never to be opened again once its last edition has come.
+fn is_openable(g: Geometry, image: &[u8], r: Region) -> bool
     requires { ⌜ Readable g (now image) ⌝ }
-    ensures { λ r. ⌜ r .0 ≡ lowestNotOpen g (front g (now (image .entry))) ⌝ }
+    requires { ⌜ r .0 < g .entries ⌝ }
+    ensures { λ t. ⌜ t ≡ openable g (front g (now (image .entry))) (r .0) ⌝ }
+{
+    if image::is_open(g, image, r) {
+        return false;
+    }
+    image::edition(g, image, r).0 < paper::LAST_EDITION.0
+}
+
+// The lowest region from 16 to E-2 that can be opened, or E-1 where there is none.
+fn lowest_openable(g: Geometry, image: &[u8]) -> Region
+    requires { ⌜ Readable g (now image) ⌝ }
+    ensures { λ r. ⌜ r .0 ≡ lowestOpenable g (front g (now (image .entry))) ⌝ }
 {
     let end = g.no_region().0;
     let mut r = paper::FIXED_REGIONS;
     while r < end {
-        if !image::is_open(g, image, Region(r)) {
+        if is_openable(g, image, Region(r)) {
             return Region(r);
         }
         r += 1;
@@ -170,7 +182,7 @@ pub fn next_region(g: Geometry, image: &[u8]) -> Region
     if c.0 < g.no_region().0 {
         return c;
     }
-    lowest_not_open(g, image)
+    lowest_openable(g, image)
 }
 
 // The counter, while it gives the regions.

@@ -1,10 +1,20 @@
 //! The proved calls at any geometry, allowed or not, for tests and measurements alone.
 
-use jaaturbal_model::paper::{Call, Geometry, Lent};
+use jaaturbal_model::paper::{Book, Call, Geometry, Lent, Version};
 
 mod proved {
     unsafe extern "C" {
         pub fn any_lay(
+            page: u64,
+            pages: u64,
+            blocks: u64,
+            entries: u64,
+            image: *mut u8,
+            image_bytes: usize,
+            index: *mut u8,
+            index_bytes: usize,
+        ) -> u64;
+        pub fn any_lay_version_2(
             page: u64,
             pages: u64,
             blocks: u64,
@@ -45,6 +55,7 @@ mod proved {
             index: *mut u8,
             index_bytes: usize,
             region: u32,
+            edition: u32,
             more: u64,
         ) -> u64;
         pub fn any_load(
@@ -57,6 +68,7 @@ mod proved {
             index: *const u8,
             index_bytes: usize,
             region: u32,
+            edition: u32,
             offset: u64,
             buffer: *mut u8,
             buffer_bytes: usize,
@@ -71,6 +83,7 @@ mod proved {
             index: *const u8,
             index_bytes: usize,
             region: u32,
+            edition: u32,
             offset: u64,
             bytes: *const u8,
             bytes_bytes: usize,
@@ -83,6 +96,7 @@ mod proved {
             image: *const u8,
             image_bytes: usize,
             region: u32,
+            edition: u32,
         ) -> u64;
         pub fn any_release(
             page: u64,
@@ -94,6 +108,7 @@ mod proved {
             index: *mut u8,
             index_bytes: usize,
             region: u32,
+            edition: u32,
         ) -> u64;
         pub fn any_recover(
             page: u64,
@@ -117,13 +132,14 @@ pub fn make(geometry: Geometry, call: Call, lent: Lent<'_>) -> u64 {
     let (buffer, buffer_bytes) = (lent.buffer.as_mut_ptr(), lent.buffer.len());
     unsafe {
         match call {
-            Call::Lay => proved::any_lay(s, p, b, e, image, image_bytes, index, index_bytes),
+            Call::Lay(Version::Three) => proved::any_lay(s, p, b, e, image, image_bytes, index, index_bytes),
+            Call::Lay(Version::Two) => proved::any_lay_version_2(s, p, b, e, image, image_bytes, index, index_bytes),
             Call::Move { pages } => proved::any_move(s, p, b, e, image, image_bytes, index, index_bytes, pages),
             Call::Open => proved::any_open(s, p, b, e, image, image_bytes, index, index_bytes),
-            Call::Grow { region, pages } => {
-                proved::any_grow(s, p, b, e, image, image_bytes, index, index_bytes, region, pages)
+            Call::Grow { book: Book { region, edition }, pages } => {
+                proved::any_grow(s, p, b, e, image, image_bytes, index, index_bytes, region, edition, pages)
             }
-            Call::Load { region, offset } => proved::any_load(
+            Call::Load { book: Book { region, edition }, offset } => proved::any_load(
                 s,
                 p,
                 b,
@@ -133,11 +149,12 @@ pub fn make(geometry: Geometry, call: Call, lent: Lent<'_>) -> u64 {
                 index,
                 index_bytes,
                 region,
+                edition,
                 offset,
                 buffer,
                 buffer_bytes,
             ),
-            Call::Store { region, offset } => proved::any_store(
+            Call::Store { book: Book { region, edition }, offset } => proved::any_store(
                 s,
                 p,
                 b,
@@ -147,12 +164,17 @@ pub fn make(geometry: Geometry, call: Call, lent: Lent<'_>) -> u64 {
                 index,
                 index_bytes,
                 region,
+                edition,
                 offset,
                 buffer,
                 buffer_bytes,
             ),
-            Call::Size { region } => proved::any_size(s, p, b, e, image, image_bytes, region),
-            Call::Release { region } => proved::any_release(s, p, b, e, image, image_bytes, index, index_bytes, region),
+            Call::Size { book: Book { region, edition } } => {
+                proved::any_size(s, p, b, e, image, image_bytes, region, edition)
+            }
+            Call::Release { book: Book { region, edition } } => {
+                proved::any_release(s, p, b, e, image, image_bytes, index, index_bytes, region, edition)
+            }
             Call::Recover => proved::any_recover(s, p, b, e, image, image_bytes, index, index_bytes),
         }
     }

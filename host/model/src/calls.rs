@@ -1,6 +1,6 @@
 //! Calls drawn at random, mostly sensible for the image at hand, and now and then extreme.
 
-use crate::paper::{Call, Geometry, KEPT_BACK, number, pages_of};
+use crate::paper::{Book, Call, Geometry, KEPT_BACK, Version, edition_of, number, pages_of};
 use crate::random::Random;
 
 /// What an accepted call may cost: pages to zero, and bytes to copy.
@@ -33,8 +33,19 @@ impl<'a> View<'a> {
         if self.has_tables() { number(&self.image[8..10]) } else { 0 }
     }
 
-    fn counter(&self) -> u64 {
+    pub fn counter(&self) -> u64 {
         if self.has_tables() { number(&self.image[10..12]) } else { 0 }
+    }
+
+    /// The version that the header tells, if there are tables and it tells one.
+    pub fn version(&self) -> Option<Version> {
+        self.has_tables().then(|| Version::told(self.image)).flatten()
+    }
+
+    /// The edition that stands in the table, whatever it is.
+    pub fn edition(&self, region: u64) -> u64 {
+        let there = self.has_tables() && region < self.g.entries;
+        if there { edition_of(self.g, self.image, region) } else { 0 }
     }
 
     /// The page count that stands in the table, whatever it is; 0 for a book that is not open.
@@ -76,6 +87,22 @@ impl<'a> View<'a> {
         let blocks = self.need(1).min(self.g.blocks) + capacity.saturating_sub(self.taken());
         let unfilled = self.need(region).wrapping_mul(self.g.pages).wrapping_sub(self.pages(region));
         blocks * self.g.pages + unfilled % self.g.pages
+    }
+
+    /// The book that a call names: by the edition that stands in the table, mostly.
+    fn book(&self, random: &mut Random) -> Book {
+        let region = self.region(random);
+        let right = self.edition(u64::from(region)) as u32;
+        let edition = match random.below(12) {
+            0 => right.wrapping_sub(1),
+            1 => right.wrapping_add(1),
+            2 => {
+                let drawn = random.draw() as u32;
+                random.pick(&[0, 1, u32::MAX - 1, u32::MAX, drawn])
+            }
+            _ => right,
+        };
+        Book { region, edition }
     }
 
     fn region(&self, random: &mut Random) -> u32 {
@@ -159,18 +186,18 @@ impl<'a> View<'a> {
 
 /// A call, and the bytes of the buffer lent to it. Early in a history most calls open books and make them grow.
 pub fn draw(view: &View<'_>, early: bool, limits: &Limits, random: &mut Random) -> (Call, usize) {
-    let region = view.region(random);
-    let (offset, bytes) = view.stretch(u64::from(region), limits, random);
-    let growth = view.growth(u64::from(region), limits, random);
+    let book = view.book(random);
+    let (offset, bytes) = view.stretch(u64::from(book.region), limits, random);
+    let growth = view.growth(u64::from(book.region), limits, random);
     match random.below(if early { 200 } else { 100 }) {
         0..14 | 100..140 => (Call::Open, 0),
-        14..34 | 140..200 => (Call::Grow { region, pages: growth }, 0),
-        34..56 => (Call::Load { region, offset }, bytes),
-        56..76 => (Call::Store { region, offset }, bytes),
-        76..84 => (Call::Size { region }, 0),
-        84..91 => (Call::Release { region }, 0),
+        14..34 | 140..200 => (Call::Grow { book, pages: growth }, 0),
+        34..56 => (Call::Load { book, offset }, bytes),
+        56..76 => (Call::Store { book, offset }, bytes),
+        76..84 => (Call::Size { book }, 0),
+        84..91 => (Call::Release { book }, 0),
         91..97 => (Call::Recover, 0),
         97 => (Call::Move { pages: view.older(random) }, 0),
-        _ => (Call::Lay, 0),
+        _ => (Call::Lay(random.pick(&Version::ALL)), 0),
     }
 }

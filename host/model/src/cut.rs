@@ -6,18 +6,18 @@ use std::fmt::{self, Display, Formatter};
 
 use crate::paper::{self, Call, Geometry, Tables};
 
-/// The bytes of each book, by region. Region 1 has none: it holds blocks for others, and no call reads it.
-type Books = Vec<Option<Vec<u8>>>;
+/// The edition of each region, and the bytes of its book. Region 1 has none: it holds blocks for others, and no call reads it.
+type Books = Vec<(u64, Option<Vec<u8>>)>;
 
 /// The books that recovery finds in an image, or none where it refuses.
 fn books(g: Geometry, image: &[u8]) -> Option<Books> {
-    let Tables { taken, blocks, books, .. } = paper::accepted(g, image).ok()?;
+    let Tables { taken, blocks, books, editions, .. } = paper::accepted(g, image).ok()?;
     let empty = |(region, pages): (usize, &Option<u64>)| {
         pages.filter(|_| region != 1).map(|pages| vec![0; (pages * g.page) as usize])
     };
-    let mut found: Books = books.iter().enumerate().map(empty).collect();
+    let mut found: Books = editions.into_iter().zip(books.iter().enumerate().map(empty)).collect();
     for (block, (region, position)) in (0..taken).zip(blocks) {
-        let Some(book) = &mut found[region as usize] else { continue };
+        let (_, Some(book)) = &mut found[region as usize] else { continue };
         let part = book.chunks_mut(g.block_bytes() as usize).nth(position as usize).expect("a position below the need");
         part.copy_from_slice(&image[g.data_at(block)..][..part.len()]);
     }
@@ -60,13 +60,17 @@ impl Cut {
         }
         let mut sides = [&self.before, &self.after].map(|side| side.as_ref().unwrap_or(const { &Vec::new() }).iter());
         for (region, found) in found.iter().enumerate() {
-            let sides = sides.each_mut().map(|side| side.next().and_then(Option::as_ref));
-            shown(found.as_ref(), sides).map_err(|what| format!("book {region} {what}"))?;
+            let sides = sides.each_mut().map(Iterator::next);
+            if !sides.iter().flatten().any(|(edition, _)| *edition == found.0) {
+                return Err(format!("region {region} has edition {}", found.0));
+            }
+            let sides = sides.map(|side| side.and_then(|(_, book)| book.as_ref()));
+            shown(found.1.as_ref(), sides).map_err(|what| format!("book {region} {what}"))?;
         }
         if self.mixes {
             return Ok(Found::Mixed);
         }
-        Err("some books are those from before the call and others those from after it".into())
+        Err("some books and editions are those from before the call and others those from after it".into())
     }
 }
 
@@ -137,7 +141,7 @@ impl Display for Instants {
 /// The calls that write to an image; the others are one.
 fn name(call: Call) -> &'static str {
     match call {
-        Call::Lay => "lay",
+        Call::Lay(_) => "lay",
         Call::Move { .. } => "move",
         Call::Open => "open",
         Call::Grow { .. } => "grow",

@@ -1,7 +1,7 @@
 //! Damage to an image's header and tables, and to an index: each kind breaks one rule, or none.
 
 use crate::calls::View;
-use crate::paper::{Geometry, Tables, number, put};
+use crate::paper::{Geometry, LAST_EDITION, Tables, number, put, version_of};
 use crate::random::Random;
 
 /// Damages something: the tables, mostly, or the index. An image too short to have tables stays.
@@ -14,12 +14,13 @@ pub fn anything(g: Geometry, focus: Option<u64>, image: &mut [u8], index: &mut [
 }
 
 fn damage_front(g: Geometry, focus: Option<u64>, image: &mut [u8], random: &mut Random) {
-    match random.below(11) {
+    match random.below(13) {
         0 => header(g, image, random),
         1..5 => entry(g, focus, image, random),
         5..8 => book(g, focus, image, random),
         8 => kept_back(g, focus, image, random),
-        9 => {
+        9 | 10 => edition(g, focus, image, random),
+        11 => {
             if let Some(at) = unused(g, random).filter(|at| *at < image.len()) {
                 image[at] ^= random.between(1, 255) as u8;
             }
@@ -34,10 +35,15 @@ fn damage_front(g: Geometry, focus: Option<u64>, image: &mut [u8], random: &mut 
 fn header(g: Geometry, image: &mut [u8], random: &mut Random) {
     let taken = number(&image[8..10]);
     let counter = number(&image[10..12]);
-    match random.below(3) {
+    match random.below(4) {
         0 => {
             let at = random.pick(&[0, 1, 2, 3, 4, 5, 6, 7, 12, 13, 14, 15]);
             image[at] ^= random.between(1, 255) as u8;
+        }
+        3 => {
+            // The other version among them: its tables say something else then.
+            let version = random.pick(&[0, 1, 2, 3, 3, 2, 4, 2 << 16, 3 << 24]);
+            put(&mut image[4..8], version);
         }
         1 => {
             let drawn = random.pick(&[taken + 1, taken.wrapping_sub(1), 0, g.blocks, g.blocks + 1, 65_535]);
@@ -92,20 +98,33 @@ fn book(g: Geometry, focus: Option<u64>, image: &mut [u8], random: &mut Random) 
     let pages = view.pages(region);
     let most = g.most_book_pages();
     let less = pages.wrapping_sub(random.between(1, g.pages));
+    let version = version_of(image);
+    let not_open = version.not_open();
     let drawn = match random.below(4) {
-        0 => random.pick(&[0, u64::MAX, most, most + 1, u64::MAX - 1, 1 << 63, 1 << 32]),
+        0 => random.pick(&[0, not_open, most, most + 1, not_open - 1, not_open / 2 + 1, 1 << 32]),
         1 => random.pick(&[pages.wrapping_add(1), less]),
         2 => random.pick(&[pages.wrapping_add(g.pages), pages.wrapping_sub(g.pages)]),
-        _ => random.pick(&[0, u64::MAX]),
+        _ => random.pick(&[0, not_open]),
     };
-    let at = g.size_at(region);
-    put(&mut image[at..at + 8], drawn);
+    put(&mut image[g.pages_at(version, region)], drawn);
     if random.percent(30) {
         // Another book gives what this one gained, so that the needs may still sum to the blocks taken.
-        let giver = g.size_at(View { g, image, focus }.some_book(random));
-        let pages = number(&image[giver..giver + 8]);
-        put(&mut image[giver..giver + 8], pages.wrapping_sub(g.pages));
+        let giver = g.pages_at(version, View { g, image, focus }.some_book(random));
+        let pages = number(&image[giver.clone()]);
+        put(&mut image[giver], pages.wrapping_sub(g.pages));
     }
+}
+
+/// A region's edition: of one that is always open, of one that was not given out yet, of a book, or of one that was released.
+/// In version 2 the same bytes are the upper half of a page count.
+fn edition(g: Geometry, focus: Option<u64>, image: &mut [u8], random: &mut Random) {
+    let view = View { g, image, focus };
+    let beyond = random.between(view.counter().min(g.entries - 1), g.entries - 1);
+    let some = [random.below(16), beyond, g.entries - 1, view.some_book(random), view.some_closed(random)];
+    let region = random.pick(&some);
+    let before = view.edition(region);
+    let drawn = random.pick(&[0, 1, before + 1, before.wrapping_sub(1), LAST_EDITION - 1, LAST_EDITION, LAST_EDITION]);
+    put(&mut image[g.edition_at(region)], drawn);
 }
 
 /// A book that is kept back: more pages than any may have; or an open book's pages and blocks, which breaks no rule where it had
@@ -114,8 +133,9 @@ fn kept_back(g: Geometry, focus: Option<u64>, image: &mut [u8], random: &mut Ran
     let from = View { g, image, focus }.some_book(random);
     let (to, most) = (random.between(2, 15), g.most_book_pages());
     let mut tables = Tables::read(g, image);
+    let largest = tables.version.not_open() - 1;
     if random.percent(50) {
-        tables.books[to as usize] = Some(random.pick(&[most + 1, most + g.pages, 1 << 32, 1 << 63, u64::MAX - 1]));
+        tables.books[to as usize] = Some(random.pick(&[most + 1, most + g.pages, largest / 2 + 1, largest]));
     } else if let Some(pages) = tables.books[from as usize] {
         tables.books[to as usize] = Some(pages);
         tables.books[from as usize] = Some(0);

@@ -5,10 +5,10 @@ use crate::compare::{Asked, judge};
 use crate::damage;
 use crate::geometries::{self, EDGES, Named};
 use crate::memory::{Guarded, Side};
-use crate::paper::{Call, Geometry, Lent, Manager};
+use crate::paper::{Call, Geometry, Lent, Manager, Version};
 use crate::random::Random;
 use crate::tables::{Wanted, drawn};
-use crate::tally::Tally;
+use crate::tally::{Tally, kinds};
 
 const STEPS: u64 = 60;
 const EARLY: u64 = 15;
@@ -73,7 +73,10 @@ impl<Name: Named> Desk<Name> {
         let early = steps - EARLY;
         let mut state = self.fresh();
         match self.random.below(10) {
-            0..5 => self.make(Call::Lay, 0, &mut state)?,
+            0..5 => {
+                let version = self.random.pick(&Version::ALL);
+                self.make(Call::Lay(version), 0, &mut state)?;
+            }
             5 => {
                 let pages = View::new(self.g, &state.image).older(&mut self.random);
                 self.make(Call::Move { pages }, 0, &mut state)?;
@@ -170,11 +173,11 @@ impl<Name: Named> Desk<Name> {
             index: index_room.copy_of(&state.index, side()),
             buffer: buffer_room.copy_of(&buffer, side()),
         };
-        let beside_kept = View::new(self.g, &state.image).has_kept_back();
+        let on = kinds(&View::new(self.g, &state.image));
         let model = Lent { image: &mut state.image, index: &mut state.index, buffer: &mut buffer };
         let asked = Asked { geometry, call, compared: usize::MAX };
         let outcome = judge(self.manager, &asked, ours, model)?;
-        self.tally.count(call, beside_kept, &outcome);
+        self.tally.count(call, on, &outcome);
         Ok(())
     }
 }

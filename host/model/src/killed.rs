@@ -11,7 +11,7 @@ use std::time::{Duration, Instant};
 
 use crate::cut::{Cut, Found, Instants};
 use crate::geometries::Named;
-use crate::paper::{self, Call, Geometry, Lent, Manager};
+use crate::paper::{self, Book, Call, Geometry, Lent, Manager, Version};
 use crate::random::Random;
 
 unsafe extern "C" {
@@ -92,8 +92,8 @@ impl<Name: Named> Desk<Name> {
         value
     }
 
-    fn opened(&mut self) -> u32 {
-        self.make(Call::Open, &mut []) as u32
+    fn opened(&mut self) -> Book {
+        Book::opened(self.make(Call::Open, &mut []))
     }
 
     fn case(&self, call: Call, mut buffer: Vec<u8>) -> Case {
@@ -107,22 +107,22 @@ impl<Name: Named> Desk<Name> {
     /// A book with bytes in every page, released; another that has begun to grow over its blocks. Then the calls to be killed
     /// in, the growth by reused pages first: some of them in the block that the book holds, the others in reclaimed ones.
     fn cases(&mut self, random: &mut Random) -> Vec<Case> {
-        self.make(Call::Lay, &mut []);
+        self.make(Call::Lay(Version::Three), &mut []);
         let first = self.opened();
-        self.make(Call::Grow { region: first, pages: HELD + GROWTH }, &mut []);
+        self.make(Call::Grow { book: first, pages: HELD + GROWTH }, &mut []);
         let mut bids = vec![0; ((HELD + GROWTH) * self.g.page) as usize];
         random.fill(&mut bids);
         bids.iter_mut().for_each(|byte| *byte |= 1);
-        self.make(Call::Store { region: first, offset: 0 }, &mut bids);
-        self.make(Call::Release { region: first }, &mut []);
+        self.make(Call::Store { book: first, offset: 0 }, &mut bids);
+        self.make(Call::Release { book: first }, &mut []);
         let second = self.opened();
-        self.make(Call::Grow { region: second, pages: HELD }, &mut []);
-        let growth = Call::Grow { region: second, pages: GROWTH };
+        self.make(Call::Grow { book: second, pages: HELD }, &mut []);
+        let growth = Call::Grow { book: second, pages: GROWTH };
         let cut_in_growth = self.case(growth, Vec::new());
         self.make(growth, &mut []);
         let half = bids.len() / 2;
-        let cut_in_store = self.case(Call::Store { region: second, offset: 7 }, bids[..half].to_vec());
-        let cut_in_release = self.case(Call::Release { region: second }, Vec::new());
+        let cut_in_store = self.case(Call::Store { book: second, offset: 7 }, bids[..half].to_vec());
+        let cut_in_release = self.case(Call::Release { book: second }, Vec::new());
         vec![cut_in_growth, cut_in_store, cut_in_release]
     }
 }

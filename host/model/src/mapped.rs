@@ -6,10 +6,10 @@ use crate::compare::{Asked, judge};
 use crate::damage;
 use crate::geometries::Named;
 use crate::memory::{Guarded, Side};
-use crate::paper::{Call, Geometry, Lent, Manager};
+use crate::paper::{Call, Geometry, Lent, Manager, Version};
 use crate::random::Random;
 use crate::tables::{Wanted, drawn};
-use crate::tally::Tally;
+use crate::tally::{Tally, kinds};
 
 const MOST_BUFFER: usize = 20 << 20;
 const STEPS: u64 = 40;
@@ -95,7 +95,8 @@ impl<Name: Named> Mapped<Name> {
     }
 
     fn history(&mut self, all_taken: bool) -> Result<(), String> {
-        self.make(Call::Lay, 0, self.bytes)?;
+        let version = self.random.pick(&Version::ALL);
+        self.make(Call::Lay(version), 0, self.bytes)?;
         let g = self.g;
         let capacity = g.capacity(self.bytes);
         if all_taken || self.random.percent(70) {
@@ -170,11 +171,11 @@ impl<Name: Named> Mapped<Name> {
             buffer: buffer_room.copy_of(&buffer, side()),
         };
         let image = self.model.part(bytes, Side::Front);
-        let beside_kept = View::new(self.g, image).has_kept_back();
+        let on = kinds(&View::new(self.g, image));
         let model = Lent { image, index: &mut self.index, buffer: &mut buffer };
         let asked = Asked { geometry, call, compared: self.compared };
         let outcome = judge(self.manager, &asked, ours, model)?;
-        self.tally.count(call, beside_kept, &outcome);
+        self.tally.count(call, on, &outcome);
         Ok(())
     }
 

@@ -1,4 +1,4 @@
-//! The calls as document 01 tells them.
+//! The calls as document 01 tells them, and as the requests of document 02 amend them.
 
 use std::collections::BTreeMap;
 use std::ops::Range;
@@ -63,9 +63,24 @@ impl Geometry {
         (16 + 4 * block) as usize
     }
 
-    /// Where the region's page count stands.
-    pub fn size_at(self, region: u64) -> usize {
+    /// Where the region's entry stands.
+    pub fn region_at(self, region: u64) -> usize {
         (16 + 4 * self.blocks + 8 * region) as usize
+    }
+
+    /// Where its page count stands: in all eight bytes of the entry, or in the low four that version 3 leaves for it.
+    pub fn pages_at(self, version: Version, region: u64) -> Range<usize> {
+        let at = self.region_at(region);
+        match version {
+            Version::Two => at..at + 8,
+            Version::Three => at..at + 4,
+        }
+    }
+
+    /// Where version 3 has the edition: in the high four.
+    pub fn edition_at(self, region: u64) -> Range<usize> {
+        let at = self.region_at(region);
+        at + 4..at + 8
     }
 
     pub fn data_at(self, block: u64) -> usize {
@@ -86,17 +101,71 @@ impl Geometry {
     }
 }
 
+/// The versions that an image can have: request R-12 of document 02 adds the third.
+#[derive(Clone, Copy, Debug, PartialEq, Eq)]
+pub enum Version {
+    Two,
+    Three,
+}
+
+impl Version {
+    pub const ALL: [Version; 2] = [Version::Two, Version::Three];
+
+    pub fn number(self) -> u64 {
+        match self {
+            Version::Two => 2,
+            Version::Three => 3,
+        }
+    }
+
+    /// The version that a header tells, if it tells one of these.
+    pub fn told(image: &[u8]) -> Option<Version> {
+        let told = number(&image[4..8]);
+        Version::ALL.into_iter().find(|version| version.number() == told)
+    }
+
+    /// What stands for "not open" in the place of a page count: all ones.
+    pub fn not_open(self) -> u64 {
+        match self {
+            Version::Two => u64::MAX,
+            Version::Three => u64::from(u32::MAX),
+        }
+    }
+}
+
+/// At this edition a region is never opened again.
+pub const LAST_EDITION: u64 = 4_294_967_295;
+
+/// How calls name a book, and open gives it.
+#[derive(Clone, Copy, Debug, PartialEq, Eq, PartialOrd, Ord)]
+pub struct Book {
+    pub region: u32,
+    pub edition: u32,
+}
+
+impl Book {
+    /// The book that open's value tells: region + 65,536 × edition.
+    pub fn opened(value: u64) -> Book {
+        Book { region: (value % 65_536) as u32, edition: (value / 65_536) as u32 }
+    }
+
+    /// Open's value for it.
+    pub fn value(self) -> u64 {
+        u64::from(self.region) + 65_536 * u64::from(self.edition)
+    }
+}
+
 /// A call, with the numbers it is given. The memory that it works on is lent beside it.
 #[derive(Clone, Copy, Debug, PartialEq)]
 pub enum Call {
-    Lay,
+    Lay(Version),
     Move { pages: u64 },
     Open,
-    Grow { region: u32, pages: u64 },
-    Load { region: u32, offset: u64 },
-    Store { region: u32, offset: u64 },
-    Size { region: u32 },
-    Release { region: u32 },
+    Grow { book: Book, pages: u64 },
+    Load { book: Book, offset: u64 },
+    Store { book: Book, offset: u64 },
+    Size { book: Book },
+    Release { book: Book },
     Recover,
 }
 
@@ -127,8 +196,9 @@ macro_rules! reasons {
     };
 }
 
-// A rule's reasons begin with its letter. Those of 16 tell where the first byte stands that is not zero: at either end or between. Rule b holds for the books kept back as for any: they have a reason of their own so
-// that it is seen to come.
+// A rule's reasons begin with its letter. Those of 16 tell where the first byte stands that is not zero: at either end or
+// between. Rule b holds for the books kept back as for any: they have a reason of their own so that it is seen to come. An
+// edition is wrong in three ways: it is of a book that was released, or of one that is still to come, or is not 0 in version 2.
 reasons! {
     Geometry: 1,
     IndexLength: 2,
@@ -141,6 +211,9 @@ reasons! {
     TailMissing: 5,
     AFixedNotOpen: 6,
     AOpenFromCounter: 6,
+    AOpenAtLastEdition: 6,
+    AFixedEdition: 6,
+    AEditionFromCounter: 6,
     BKeptBackTooManyPages: 6,
     BTooManyPages: 6,
     BReclaimedPart: 6,
@@ -161,12 +234,16 @@ reasons! {
     BeyondBook: 9,
     NoBlocksLeft: 10,
     NoRegionLeft: 11,
+    OnlyLastEditions: 11,
     NotBlank: 12,
     MoveShortImage: 13,
     MoveAboveBlocks: 13,
     UnusedFirst: 16,
     UnusedLast: 16,
     UnusedBetween: 16,
+    EditionGone: 18,
+    EditionToCome: 18,
+    EditionOfVersion2: 18,
 }
 
 /// What an accepted call answers, and the bytes past the tables that it read or wrote.
@@ -214,48 +291,55 @@ pub fn put(bytes: &mut [u8], mut value: u64) {
     }
 }
 
-pub const NOT_OPEN: u64 = u64::MAX;
 pub const UNUSED_SLOT: u64 = 65_535;
 
 /// The regions that are kept back. They may hold pages, which came with the image.
 pub const KEPT_BACK: Range<usize> = 2..16;
 
-/// The counts and both tables of an image. A book that is not open has no page count.
+/// The version, the counts and both tables of an image. A book that is not open has no page count. In version 2 every edition
+/// is 0.
 #[derive(Clone, Debug, PartialEq)]
 pub struct Tables {
+    pub version: Version,
     pub taken: u64,
     pub counter: u64,
     pub blocks: Vec<(u64, u64)>,
     pub books: Vec<Option<u64>>,
+    pub editions: Vec<u64>,
 }
 
 impl Tables {
-    pub fn empty(g: Geometry) -> Tables {
+    pub fn empty(g: Geometry, version: Version) -> Tables {
         Tables {
+            version,
             taken: 0,
             counter: 16,
             blocks: vec![(g.entries - 1, 0); g.blocks as usize],
             books: (0..g.entries).map(|region| (region < 16).then_some(0)).collect(),
+            editions: vec![0; g.entries as usize],
         }
     }
 
+    /// A header that tells no version is read as one of version 2.
     pub fn read(g: Geometry, image: &[u8]) -> Tables {
         let entry = |block| {
             let at = g.entry_at(block);
             (number(&image[at..at + 2]), number(&image[at + 2..at + 4]))
         };
         Tables {
+            version: version_of(image),
             taken: number(&image[8..10]),
             counter: number(&image[10..12]),
             blocks: (0..g.blocks).map(entry).collect(),
             books: (0..g.entries).map(|region| pages_of(g, image, region)).collect(),
+            editions: (0..g.entries).map(|region| edition_of(g, image, region)).collect(),
         }
     }
 
     /// Writes the whole header and both tables.
     pub fn write(&self, g: Geometry, image: &mut [u8]) {
         put(&mut image[0..4], 0);
-        put(&mut image[4..8], 2);
+        put(&mut image[4..8], self.version.number());
         put(&mut image[8..10], self.taken);
         put(&mut image[10..12], self.counter);
         put(&mut image[12..16], 0);
@@ -264,9 +348,13 @@ impl Tables {
             put(&mut image[at..at + 2], *region);
             put(&mut image[at + 2..at + 4], *position);
         }
+        let not_open = self.version.not_open();
         for (region, pages) in (0..).zip(&self.books) {
-            let at = g.size_at(region);
-            put(&mut image[at..at + 8], pages.unwrap_or(NOT_OPEN));
+            assert!(pages.is_none_or(|pages| pages < not_open), "a page count that an entry has no room for");
+            put(&mut image[g.pages_at(self.version, region)], pages.unwrap_or(not_open));
+        }
+        if self.version == Version::Three {
+            (0..).zip(&self.editions).for_each(|(region, edition)| put(&mut image[g.edition_at(region)], *edition));
         }
     }
 
@@ -274,11 +362,16 @@ impl Tables {
         self.books[region as usize].map_or(0, |pages| g.need(u128::from(pages)))
     }
 
-    /// Refusal 6: rules a to e, with rule b as request R-4 of document 02 has it.
+    /// Refusal 6: rules a to e, with rule a as request R-12 of document 02 has it and rule b as R-4 does.
     pub fn well_formed(&self, g: Geometry) -> Result<(), Why> {
         let open = |region: u64| self.books.get(region as usize).is_some_and(|book| book.is_some());
+        let edition = |region: u64| self.editions[region as usize];
         refuse(!(0..16).all(open), Why::AFixedNotOpen)?;
         refuse((self.counter..g.entries).any(open), Why::AOpenFromCounter)?;
+        refuse((0..16).any(|region| edition(region) != 0), Why::AFixedEdition)?;
+        refuse((self.counter..g.entries).any(|region| edition(region) != 0), Why::AEditionFromCounter)?;
+        let at_last = |region: u64| open(region) && edition(region) >= LAST_EDITION;
+        refuse((0..g.entries).any(at_last), Why::AOpenAtLastEdition)?;
         let too_many = |book: &Option<u64>| book.is_some_and(|pages| pages > g.most_book_pages());
         refuse(self.books[KEPT_BACK].iter().any(too_many), Why::BKeptBackTooManyPages)?;
         refuse(self.books.iter().any(too_many), Why::BTooManyPages)?;
@@ -309,17 +402,30 @@ impl Tables {
         numbers.iter().flat_map(|number| (*number as u16).to_le_bytes()).collect()
     }
 
-    fn block_of(&self, region: u64, position: u64) -> u64 {
+    pub fn block_of(&self, region: u64, position: u64) -> u64 {
         let found = self.blocks[..self.taken as usize].iter().position(|entry| *entry == (region, position));
         found.expect("well-formed tables have a block for each position") as u64
     }
 }
 
+/// The version of an image, 2 where its header tells none.
+pub fn version_of(image: &[u8]) -> Version {
+    Version::told(image).unwrap_or(Version::Two)
+}
+
 /// The pages of a book, if it is open.
 pub fn pages_of(g: Geometry, image: &[u8], region: u64) -> Option<u64> {
-    let at = g.size_at(region);
-    let pages = number(&image[at..at + 8]);
-    (pages != NOT_OPEN).then_some(pages)
+    let version = version_of(image);
+    let pages = number(&image[g.pages_at(version, region)]);
+    (pages != version.not_open()).then_some(pages)
+}
+
+/// The edition of a region's book, or of the next one if it is not open.
+pub fn edition_of(g: Geometry, image: &[u8], region: u64) -> u64 {
+    match version_of(image) {
+        Version::Two => 0,
+        Version::Three => number(&image[g.edition_at(region)]),
+    }
 }
 
 // The table of refusals, row by row.
@@ -338,7 +444,7 @@ fn check_3(g: Geometry, image: &[u8]) -> Result<(), Why> {
 
 fn check_4(g: Geometry, image: &[u8]) -> Result<(), Why> {
     refuse(number(&image[0..4]) != 0, Why::Marker)?;
-    refuse(number(&image[4..8]) != 2, Why::Version)?;
+    refuse(Version::told(image).is_none(), Why::Version)?;
     refuse(number(&image[12..16]) != 0, Why::Spare)?;
     refuse(number(&image[8..10]) > g.blocks, Why::TakenAboveBlocks)?;
     let counter = number(&image[10..12]);
@@ -416,6 +522,13 @@ fn check_7_touched(
     Ok(stretches)
 }
 
+/// Refusals 8 and 18, which comes straight after it; where neither applies, the book's pages.
+fn checks_8_and_18(g: Geometry, image: &[u8], book: Book) -> Result<u64, Why> {
+    let pages = check_8(g, image, book.region)?;
+    check_18(g, image, book)?;
+    Ok(pages)
+}
+
 /// Refusal 8; where it does not apply, the book's pages.
 fn check_8(g: Geometry, image: &[u8], region: u32) -> Result<u64, Why> {
     let region = u64::from(region);
@@ -441,41 +554,49 @@ fn check_13(g: Geometry, image: &[u8], pages: u64) -> Result<u64, Why> {
     Ok(k as u64)
 }
 
+/// Refusal 18 of request R-12 of document 02, of a region that is open.
+fn check_18(g: Geometry, image: &[u8], book: Book) -> Result<(), Why> {
+    let (edition, named) = (edition_of(g, image, u64::from(book.region)), u64::from(book.edition));
+    refuse(named != edition && version_of(image) == Version::Two, Why::EditionOfVersion2)?;
+    refuse(named < edition, Why::EditionGone)?;
+    refuse(named > edition, Why::EditionToCome)
+}
+
 /// Makes the call on the paper's terms.
 pub fn call(g: Geometry, call: Call, lent: Lent<'_>) -> Outcome {
     let Lent { image, index, buffer } = lent;
     match call {
-        Call::Lay => lay(g, image, index),
+        Call::Lay(version) => lay(g, version, image, index),
         Call::Move { pages } => move_over(g, image, index, pages),
         Call::Open => open(g, image, index),
-        Call::Grow { region, pages } => grow(g, image, index, region, pages),
-        Call::Load { region, offset } => load(g, image, index, region, offset, buffer),
-        Call::Store { region, offset } => store(g, image, index, region, offset, buffer),
-        Call::Size { region } => size(g, image, region),
-        Call::Release { region } => release(g, image, index, region),
+        Call::Grow { book, pages } => grow(g, image, index, book, pages),
+        Call::Load { book, offset } => load(g, image, index, book, offset, buffer),
+        Call::Store { book, offset } => store(g, image, index, book, offset, buffer),
+        Call::Size { book } => size(g, image, book),
+        Call::Release { book } => release(g, image, index, book),
         Call::Recover => recover(g, image, index),
     }
 }
 
-fn lay(g: Geometry, image: &mut [u8], index: &mut [u8]) -> Outcome {
+fn lay(g: Geometry, version: Version, image: &mut [u8], index: &mut [u8]) -> Outcome {
     check_1(g)?;
     check_2(g, index)?;
     check_3(g, image)?;
     check_12(image)?;
-    let tables = Tables::empty(g);
+    let tables = Tables::empty(g, version);
     tables.write(g, image);
     image[g.unused()].fill(0);
     index.copy_from_slice(&tables.recovered(g));
     Ok(Done { value: 0, touched: vec![g.unused()] })
 }
 
-/// Request R-2 of document 02.
+/// Request R-2 of document 02. R-12 has it make version 2.
 fn move_over(g: Geometry, image: &mut [u8], index: &mut [u8], pages: u64) -> Outcome {
     check_1(g)?;
     check_2(g, index)?;
     check_3(g, image)?;
     let k = check_13(g, image, pages)?;
-    let mut tables = Tables::empty(g);
+    let mut tables = Tables::empty(g, Version::Two);
     tables.taken = k;
     tables.books[0] = Some(pages);
     let mut touched = vec![g.unused()];
@@ -524,19 +645,23 @@ fn open(g: Geometry, image: &mut [u8], index: &mut [u8]) -> Outcome {
         tables.counter += 1;
         tables.counter - 1
     } else {
-        let free = (16..=g.entries - 2).find(|region| tables.books[*region as usize].is_none());
-        free.ok_or(Why::NoRegionLeft)?
+        let closed = |region: &u64| tables.books[*region as usize].is_none();
+        let openable = |region: &u64| closed(region) && tables.editions[*region as usize] != LAST_EDITION;
+        let left = (16..=g.entries - 2).any(|region| closed(&region));
+        let none = if left { Why::OnlyLastEditions } else { Why::NoRegionLeft };
+        (16..=g.entries - 2).find(openable).ok_or(none)?
     };
+    let edition = tables.editions[region as usize];
     tables.books[region as usize] = Some(0);
     tables.write(g, image);
     index.copy_from_slice(&tables.recovered(g));
-    done(region)
+    done(Book { region: region as u32, edition: edition as u32 }.value())
 }
 
-fn grow(g: Geometry, image: &mut [u8], index: &mut [u8], region: u32, pages: u64) -> Outcome {
+fn grow(g: Geometry, image: &mut [u8], index: &mut [u8], book: Book, pages: u64) -> Outcome {
     let mut tables = checks_1_to_7(g, image, index)?;
-    let old = check_8(g, image, region)?;
-    let region = u64::from(region);
+    let old = checks_8_and_18(g, image, book)?;
+    let region = u64::from(book.region);
     let held = g.need(u128::from(old));
     let new = g.need(u128::from(old) + u128::from(pages)) - held;
     let room = tables.need_of(g, 1) + u128::from(g.capacity(image.len()) - tables.taken);
@@ -575,48 +700,48 @@ fn checks_of_bytes(
     g: Geometry,
     image: &[u8],
     index: &[u8],
-    region: u32,
+    book: Book,
     offset: u64,
     bytes: usize,
 ) -> Result<Vec<Stretch>, Why> {
     check_1(g)?;
     check_2(g, index)?;
     checks_3_to_5(g, image)?;
-    let pages = check_8(g, image, region)?;
+    let pages = checks_8_and_18(g, image, book)?;
     check_6_book(g, pages)?;
     check_9(g, pages, offset, bytes)?;
-    check_7_touched(g, image, index, u64::from(region), offset, bytes as u64)
+    check_7_touched(g, image, index, u64::from(book.region), offset, bytes as u64)
 }
 
-fn load(g: Geometry, image: &[u8], index: &[u8], region: u32, offset: u64, buffer: &mut [u8]) -> Outcome {
-    let stretches = checks_of_bytes(g, image, index, region, offset, buffer.len())?;
+fn load(g: Geometry, image: &[u8], index: &[u8], book: Book, offset: u64, buffer: &mut [u8]) -> Outcome {
+    let stretches = checks_of_bytes(g, image, index, book, offset, buffer.len())?;
     for stretch in &stretches {
         buffer[stretch.buffer.clone()].copy_from_slice(&image[stretch.image.clone()]);
     }
     Ok(Done { value: 0, touched: stretches.into_iter().map(|stretch| stretch.image).collect() })
 }
 
-fn store(g: Geometry, image: &mut [u8], index: &[u8], region: u32, offset: u64, bytes: &[u8]) -> Outcome {
-    let stretches = checks_of_bytes(g, image, index, region, offset, bytes.len())?;
+fn store(g: Geometry, image: &mut [u8], index: &[u8], book: Book, offset: u64, bytes: &[u8]) -> Outcome {
+    let stretches = checks_of_bytes(g, image, index, book, offset, bytes.len())?;
     for stretch in &stretches {
         image[stretch.image.clone()].copy_from_slice(&bytes[stretch.buffer.clone()]);
     }
     Ok(Done { value: 0, touched: stretches.into_iter().map(|stretch| stretch.image).collect() })
 }
 
-fn size(g: Geometry, image: &[u8], region: u32) -> Outcome {
+fn size(g: Geometry, image: &[u8], book: Book) -> Outcome {
     check_1(g)?;
     checks_3_to_5(g, image)?;
-    let pages = check_8(g, image, region)?;
+    let pages = checks_8_and_18(g, image, book)?;
     check_6_book(g, pages)?;
     done(pages)
 }
 
-fn release(g: Geometry, image: &mut [u8], index: &mut [u8], region: u32) -> Outcome {
+fn release(g: Geometry, image: &mut [u8], index: &mut [u8], book: Book) -> Outcome {
     let mut tables = checks_1_to_7(g, image, index)?;
-    refuse(region == 0, Why::ReleaseAnonymous)?;
-    check_8(g, image, region)?;
-    let region = u64::from(region);
+    refuse(book.region == 0, Why::ReleaseAnonymous)?;
+    checks_8_and_18(g, image, book)?;
+    let region = u64::from(book.region);
     let reclaimed = tables.need_of(g, 1) as u64;
     let held = tables.need_of(g, region) as u64;
     for entry in tables.blocks.iter_mut().filter(|entry| entry.0 == region) {
@@ -624,6 +749,9 @@ fn release(g: Geometry, image: &mut [u8], index: &mut [u8], region: u32) -> Outc
     }
     tables.books[1] = tables.books[1].map(|pages| pages + held * g.pages);
     tables.books[region as usize] = None;
+    if tables.version == Version::Three {
+        tables.editions[region as usize] += 1;
+    }
     tables.write(g, image);
     index.copy_from_slice(&tables.recovered(g));
     done(0)

@@ -4,7 +4,7 @@ use crate::calls::{Limits, View, draw};
 use crate::cut::{Cut, Found, Instants};
 use crate::damage;
 use crate::geometries::Named;
-use crate::paper::{self, Call, Geometry, Lent, Manager, Tables, put};
+use crate::paper::{self, Call, Geometry, Lent, Manager, Tables, Version, put};
 use crate::random::Random;
 use crate::tables::{Wanted, drawn};
 use crate::watched::Watched;
@@ -47,7 +47,8 @@ impl Desk<'_> {
         match self.random.below(10) {
             0..4 => {
                 self.image[..16].fill(0);
-                self.make(Call::Lay, 0)?;
+                let version = self.random.pick(&Version::ALL);
+                self.make(Call::Lay(version), 0)?;
             }
             4 | 5 => {
                 if self.random.percent(70) {
@@ -162,8 +163,8 @@ pub fn played(g: Geometry, order: Order, blocks: u64, count: u64, seed: u64) -> 
         let before = image.to_vec();
         let made = paper::call(g, call, Lent { image: &mut *image, index, buffer });
         match call {
-            Call::Grow { region, .. } if made.is_ok() => {
-                after_each(before.clone(), growth(g, order, region, &before, image))
+            Call::Grow { book, .. } if made.is_ok() => {
+                after_each(before.clone(), growth(g, order, book.region, &before, image))
             }
             _ => Vec::new(),
         }
@@ -194,7 +195,10 @@ fn growth(g: Geometry, order: Order, region: u32, before: &[u8], after: &[u8]) -
     let [old, new] = [before, after].map(|image| Tables::read(g, image));
     let [from, to] = [&old, &new].map(|tables| tables.books[region as usize].expect("an open book"));
     let block_at = |position| new.blocks.iter().position(|entry| *entry == (region, position)).expect("a block") as u64;
-    let pages_at = |region, pages| written(g.size_at(region), 8, pages);
+    let pages_at = |region, pages| {
+        let at = g.pages_at(old.version, region);
+        written(at.start, at.len(), pages)
+    };
     let zeros = (from..to).map(|page| {
         let at = g.data_at(block_at(page / g.pages)) + (page % g.pages * g.page) as usize;
         (at, vec![0; g.page as usize])

@@ -1,16 +1,20 @@
-//! Well-formed tables drawn at random: books of all sizes, those kept back among them, their blocks in any order.
+//! Well-formed tables drawn at random: books of all sizes, those kept back among them, their blocks in any order; in version 3,
+//! with editions at every edge.
 
-use crate::paper::{Geometry, KEPT_BACK, Tables};
+use crate::paper::{Geometry, KEPT_BACK, LAST_EDITION, Tables, Version};
 use crate::random::Random;
 
 /// What tables are to be like.
 pub struct Wanted {
+    pub version: Version,
     /// Blocks taken.
     pub taken: u64,
     /// Regions given out so far, from 16 up.
     pub opened: u64,
     /// How many in a hundred of those are not open again.
     pub released: u64,
+    /// How many in a hundred of these have come to their last edition, in version 3.
+    pub worn_out: u64,
     /// The most blocks that a book is given at a time.
     pub share: u64,
     /// How many in a hundred times that is a book kept back.
@@ -26,9 +30,11 @@ impl Wanted {
         let taken = if random.percent(20) { capacity } else { random.between(0, capacity) };
         let few = (2 * taken + 3).min(most);
         Wanted {
+            version: random.pick(&Version::ALL),
             taken,
             opened: if random.percent(30) { most } else { random.between(0, few) },
             released: if random.percent(30) { 0 } else { random.between(0, 60) },
+            worn_out: random.pick(&[0, 20, 20, 100]),
             share: if random.percent(50) { 1 + taken / 4 } else { 3 },
             kept_share: random.pick(&[0, 0, 10, 30, 100]),
             kept_back: random.pick(&[(2, 15), (2, 2), (15, 15)]),
@@ -37,11 +43,14 @@ impl Wanted {
 }
 
 pub fn drawn(g: Geometry, wanted: &Wanted, random: &mut Random) -> Tables {
-    let mut tables = Tables::empty(g);
+    let mut tables = Tables::empty(g, wanted.version);
     tables.taken = wanted.taken;
     tables.counter = 16 + wanted.opened;
     for region in 16..tables.counter {
         tables.books[region as usize] = (!random.percent(wanted.released)).then_some(0);
+    }
+    if wanted.version == Version::Three {
+        draw_editions(&mut tables, wanted, random);
     }
     let mut held = shares(&tables, wanted, random);
     let mut blocks: Vec<u64> = (0..wanted.taken).collect();
@@ -57,6 +66,16 @@ pub fn drawn(g: Geometry, wanted: &Wanted, random: &mut Random) -> Tables {
         }
     }
     tables
+}
+
+/// The editions of the regions that were given out: an open one is below its last.
+fn draw_editions(tables: &mut Tables, wanted: &Wanted, random: &mut Random) {
+    for region in 16..tables.counter as usize {
+        let worn_out = tables.books[region].is_none() && random.percent(wanted.worn_out);
+        let drawn = random.below(LAST_EDITION);
+        let below = random.pick(&[0, 0, 1, LAST_EDITION - 1, drawn]);
+        tables.editions[region] = if worn_out { LAST_EDITION } else { below };
+    }
 }
 
 /// How many blocks each region holds: they sum to the blocks taken.

@@ -3,48 +3,83 @@
 use std::collections::BTreeMap;
 use std::fmt;
 
-use crate::paper::{Call, Outcome, Why};
+use crate::calls::View;
+use crate::paper::{Call, Outcome, Version, Why};
 
-const CALLS: [&str; 9] = ["lay", "move", "open", "grow", "load", "store", "size", "release", "recover"];
+const ROWS: usize = 10;
+
+const CALLS: [&str; ROWS] = ["lay", "lay 2", "move", "open", "grow", "load", "store", "size", "release", "recover"];
 
 /// The refusals that a call's checks can give, as 'Order of checks' lists them, and 0.
-const REACHABLE: [&[u64]; 9] = [
+const REACHABLE: [&[u64]; ROWS] = [
+    &[0, 1, 2, 3, 12],
     &[0, 1, 2, 3, 12],
     &[0, 1, 2, 3, 13],
     &[0, 1, 2, 3, 4, 5, 6, 7, 11],
-    &[0, 1, 2, 3, 4, 5, 6, 7, 8, 10],
-    &[0, 1, 2, 3, 4, 5, 8, 6, 9, 7],
-    &[0, 1, 2, 3, 4, 5, 8, 6, 9, 7],
-    &[0, 1, 3, 4, 5, 8, 6],
-    &[0, 1, 2, 3, 4, 5, 6, 7, 8],
+    &[0, 1, 2, 3, 4, 5, 6, 7, 8, 18, 10],
+    &[0, 1, 2, 3, 4, 5, 8, 18, 6, 9, 7],
+    &[0, 1, 2, 3, 4, 5, 8, 18, 6, 9, 7],
+    &[0, 1, 3, 4, 5, 8, 18, 6],
+    &[0, 1, 2, 3, 4, 5, 6, 7, 8, 18],
     &[0, 1, 2, 3, 4, 16, 5, 6],
 ];
 
+/// Those that must also come on an image of either version, as its header tells it: all that are asked of its tables.
+const OF_A_VERSION: [&[u64]; ROWS] = [
+    &[12],
+    &[12],
+    &[0],
+    &[0, 6, 7, 11],
+    &[0, 6, 7, 8, 18, 10],
+    &[0, 8, 18, 6, 9, 7],
+    &[0, 8, 18, 6, 9, 7],
+    &[0, 8, 18, 6],
+    &[0, 6, 7, 8, 18],
+    &[0, 6],
+];
+
 /// Those that must also come on an image with pages in the regions kept back: such pages are counted, and are nobody's to call.
-const BESIDE_KEPT: [&[u64]; 9] = [&[], &[], &[0], &[0, 8, 10], &[0, 8], &[0, 8], &[0, 8], &[0, 8], &[0, 6]];
+const BESIDE_KEPT: [&[u64]; ROWS] = [&[], &[], &[], &[0], &[0, 8, 10], &[0, 8], &[0, 8], &[0, 8], &[0, 8], &[0, 6]];
 
 fn row(call: Call) -> usize {
     match call {
-        Call::Lay => 0,
-        Call::Move { .. } => 1,
-        Call::Open => 2,
-        Call::Grow { .. } => 3,
-        Call::Load { .. } => 4,
-        Call::Store { .. } => 5,
-        Call::Size { .. } => 6,
-        Call::Release { .. } => 7,
-        Call::Recover => 8,
+        Call::Lay(Version::Three) => 0,
+        Call::Lay(Version::Two) => 1,
+        Call::Move { .. } => 2,
+        Call::Open => 3,
+        Call::Grow { .. } => 4,
+        Call::Load { .. } => 5,
+        Call::Store { .. } => 6,
+        Call::Size { .. } => 7,
+        Call::Release { .. } => 8,
+        Call::Recover => 9,
     }
 }
 
+/// The images that calls are counted on.
+const ON: [(&str, &[&[u64]; ROWS]); 4] = [
+    ("on any image", &REACHABLE),
+    ("on version 2", &OF_A_VERSION),
+    ("on version 3", &OF_A_VERSION),
+    ("beside pages kept back", &BESIDE_KEPT),
+];
+
+/// Which of those this image is.
+pub type Kinds = [bool; ON.len()];
+
+pub fn kinds(view: &View<'_>) -> Kinds {
+    let version = view.version();
+    [true, version == Some(Version::Two), version == Some(Version::Three), view.has_kept_back()]
+}
+
 /// One more than the largest refusal.
-const ANSWERS: usize = 17;
+const ANSWERS: usize = 19;
 
 /// Calls by answer.
-type Cells = [[u64; ANSWERS]; 9];
+type Cells = [[u64; ANSWERS]; ROWS];
 
 /// Which of these answers were never given.
-fn never<'a>(cells: &'a Cells, answers: &'a [&[u64]; 9]) -> impl Iterator<Item = String> + 'a {
+fn never<'a>(cells: &'a Cells, answers: &'a [&[u64]; ROWS]) -> impl Iterator<Item = String> + 'a {
     let pairs =
         answers.iter().enumerate().flat_map(|(call, numbers)| numbers.iter().map(move |number| (call, *number)));
     let none = pairs.filter(|(call, number)| cells[*call][*number as usize] == 0);
@@ -52,7 +87,7 @@ fn never<'a>(cells: &'a Cells, answers: &'a [&[u64]; 9]) -> impl Iterator<Item =
 }
 
 /// A line for each call, with a dash for answers that are not among these.
-fn lines(out: &mut fmt::Formatter<'_>, cells: &Cells, answers: &[&[u64]; 9]) -> fmt::Result {
+fn lines(out: &mut fmt::Formatter<'_>, cells: &Cells, answers: &[&[u64]; ROWS]) -> fmt::Result {
     for ((call, answers), cells) in CALLS.iter().zip(answers).zip(cells) {
         write!(out, "\n{call:8}")?;
         for (number, count) in (0..).zip(cells) {
@@ -65,14 +100,12 @@ fn lines(out: &mut fmt::Formatter<'_>, cells: &Cells, answers: &[&[u64]; 9]) -> 
 
 #[derive(Default)]
 pub struct Tally {
-    cells: Cells,
-    /// Those of calls on an image that has pages in the regions kept back.
-    beside_kept: Cells,
+    cells: [Cells; ON.len()],
     reasons: BTreeMap<Why, u64>,
 }
 
 impl Tally {
-    pub fn count(&mut self, call: Call, beside_kept: bool, outcome: &Outcome) {
+    pub fn count(&mut self, call: Call, on: Kinds, outcome: &Outcome) {
         let number = match outcome {
             Ok(_) => 0,
             Err(why) => {
@@ -80,28 +113,30 @@ impl Tally {
                 why.number() as usize
             }
         };
-        self.cells[row(call)][number] += 1;
-        self.beside_kept[row(call)][number] += u64::from(beside_kept);
+        for (cells, _) in self.cells.iter_mut().zip(on).filter(|(_, on)| *on) {
+            cells[row(call)][number] += 1;
+        }
     }
 
     /// Adds what another counted.
     pub fn absorb(&mut self, other: Tally) {
-        for (ours, others) in [(&mut self.cells, other.cells), (&mut self.beside_kept, other.beside_kept)] {
-            ours.iter_mut().flatten().zip(others.iter().flatten()).for_each(|(cell, count)| *cell += count);
-        }
+        let ours = self.cells.iter_mut().flatten().flatten();
+        ours.zip(other.cells.iter().flatten().flatten()).for_each(|(cell, count)| *cell += count);
         for (why, count) in other.reasons {
             *self.reasons.entry(why).or_default() += count;
         }
     }
 
     pub fn total(&self) -> u64 {
-        self.cells.iter().flatten().sum()
+        self.cells[0].iter().flatten().sum()
     }
 
-    /// The answers that can be had, and were not: calls by refusal, and refusals by reason.
+    /// The answers that can be had, and were not: calls by refusal on each kind of image, and refusals by reason.
     pub fn missing(&self) -> Vec<String> {
-        let mut missing: Vec<String> = never(&self.cells, &REACHABLE).collect();
-        missing.extend(never(&self.beside_kept, &BESIDE_KEPT).map(|answer| answer + " beside pages kept back"));
+        let mut missing = Vec::new();
+        for (cells, (on, answers)) in self.cells.iter().zip(ON) {
+            missing.extend(never(cells, answers).map(|answer| format!("{answer} {on}")));
+        }
         for why in Why::ALL.iter().filter(|why| !self.reasons.contains_key(why)) {
             missing.push(format!("refusal {} never came from {why:?}", why.number()));
         }
@@ -113,9 +148,10 @@ impl fmt::Display for Tally {
     fn fmt(&self, out: &mut fmt::Formatter<'_>) -> fmt::Result {
         write!(out, "{:8}", "")?;
         (0..ANSWERS).try_for_each(|number| write!(out, "{number:>9}"))?;
-        lines(out, &self.cells, &REACHABLE)?;
-        write!(out, "\nbeside pages kept back")?;
-        lines(out, &self.beside_kept, &BESIDE_KEPT)?;
+        for (cells, (on, answers)) in self.cells.iter().zip(ON) {
+            write!(out, "\n{on}")?;
+            lines(out, cells, answers)?;
+        }
         for (why, count) in &self.reasons {
             write!(out, "\n{:>4} {:22}{count:>9}", why.number(), format!("{why:?}"))?;
         }

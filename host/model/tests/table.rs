@@ -1,8 +1,13 @@
 //! The model itself, held to the bench table of document 01, case by case, and to what document 02 adds.
 
 use jaaturbal_model::paper::{
-    BENCH, Call, Geometry, HOUSE, Lent, Outcome, Tables, WIDEST, Why, answered, apart, call, number,
+    BENCH, Book, Call, Geometry, HOUSE, Lent, Outcome, Tables, Version, WIDEST, Why, answered, apart, call, number,
 };
+
+/// A book of version 2, or the first of its region in version 3.
+fn first(region: u32) -> Book {
+    Book { region, edition: 0 }
+}
 
 #[derive(Clone)]
 struct Bench {
@@ -25,7 +30,7 @@ impl Bench {
     }
 
     fn load(&mut self, offset: u64, bytes: usize) -> u64 {
-        apart(answered(&self.with(Call::Load { region: 16, offset }, &mut vec![0; bytes]))).0
+        apart(answered(&self.with(Call::Load { book: first(16), offset }, &mut vec![0; bytes]))).0
     }
 
     fn entry(&self, block: u64) -> &[u8] {
@@ -39,7 +44,7 @@ impl Bench {
     /// An image whose region 2, kept back, has so many pages, in the first blocks. Its bytes are not zero; no index is made.
     fn with_region_2(pages: u64) -> Bench {
         let mut bench = Bench::new();
-        let mut tables = Tables::empty(BENCH);
+        let mut tables = Tables::empty(BENCH, Version::Two);
         tables.books[2] = Some(pages);
         tables.taken = pages.div_ceil(8).min(16);
         (0..tables.taken).for_each(|block| tables.blocks[block as usize] = (2, block));
@@ -51,15 +56,15 @@ impl Bench {
     /// Cases 1 to 3.
     fn third_case() -> Bench {
         let mut bench = Bench::new();
-        assert_eq!(bench.make(Call::Lay), (0, 0));
+        assert_eq!(bench.make(Call::Lay(Version::Two)), (0, 0));
         assert_eq!(bench.image[..16], [0, 0, 0, 0, 2, 0, 0, 0, 0, 0, 16, 0, 0, 0, 0, 0]);
         assert!((0..16).all(|block| bench.entry(block) == [0x17, 0, 0, 0]));
-        assert_eq!(bench.make(Call::Lay), (12, 0));
+        assert_eq!(bench.make(Call::Lay(Version::Two)), (12, 0));
         assert_eq!(bench.make(Call::Open), (0, 16));
         assert_eq!(bench.make(Call::Open), (0, 17));
-        assert_eq!(bench.make(Call::Grow { region: 16, pages: 8 }), (0, 0));
-        assert_eq!(bench.make(Call::Grow { region: 17, pages: 8 }), (0, 0));
-        assert_eq!(bench.make(Call::Grow { region: 16, pages: 1 }), (0, 8));
+        assert_eq!(bench.make(Call::Grow { book: first(16), pages: 8 }), (0, 0));
+        assert_eq!(bench.make(Call::Grow { book: first(17), pages: 8 }), (0, 0));
+        assert_eq!(bench.make(Call::Grow { book: first(16), pages: 1 }), (0, 8));
         assert_eq!(number(&bench.image[8..10]), 3);
         assert_eq!(bench.entry(2), [0x10, 0, 1, 0]);
         bench
@@ -77,7 +82,7 @@ fn index_of_case_4() {
 fn bytes_of_cases_5_and_6() {
     let mut bench = Bench::third_case();
     let before = bench.image.clone();
-    assert!(bench.with(Call::Store { region: 16, offset: 510 }, &mut [1, 2, 3, 4]).is_ok());
+    assert!(bench.with(Call::Store { book: first(16), offset: 510 }, &mut [1, 2, 3, 4]).is_ok());
     let changed: Vec<usize> = (0..8_704).filter(|at| bench.image[*at] != before[*at]).collect();
     assert_eq!(changed, [1_022, 1_023, 1_536, 1_537]);
     assert_eq!([bench.load(575, 1), bench.load(576, 0), bench.load(576, 1), bench.load(577, 0)], [0, 0, 9, 9]);
@@ -96,26 +101,26 @@ fn cut_of_case_7() {
 fn release_and_growth_of_cases_8_to_10() {
     let mut bench = Bench::third_case();
     bench.image[1_536..1_600].fill(9);
-    assert_eq!(bench.make(Call::Release { region: 16 }), (0, 0));
+    assert_eq!(bench.make(Call::Release { book: first(16) }), (0, 0));
     assert_eq!([bench.entry(0), bench.entry(2)], [[1, 0, 0, 0], [1, 0, 1, 0]]);
-    assert_eq!(number(&bench.image[BENCH.size_at(1)..BENCH.size_at(2)]), 16);
-    assert_eq!(bench.make(Call::Grow { region: 17, pages: 1 }), (0, 8));
+    assert_eq!(number(&bench.image[BENCH.pages_at(Version::Two, 1)]), 16);
+    assert_eq!(bench.make(Call::Grow { book: first(17), pages: 1 }), (0, 8));
     assert_eq!(bench.entry(2), [0x11, 0, 1, 0]);
     assert_eq!(number(&bench.image[8..10]), 3);
     assert_eq!(bench.image[1_536..1_600], [0; 64]);
-    assert_eq!(bench.make(Call::Grow { region: 17, pages: 120 }), (10, 0));
-    assert_eq!(bench.make(Call::Grow { region: 17, pages: u64::MAX }), (10, 0));
-    assert_eq!(bench.make(Call::Grow { region: 17, pages: 0 }), (0, 9));
-    assert_eq!(bench.make(Call::Grow { region: 17, pages: 119 }), (0, 9));
+    assert_eq!(bench.make(Call::Grow { book: first(17), pages: 120 }), (10, 0));
+    assert_eq!(bench.make(Call::Grow { book: first(17), pages: u64::MAX }), (10, 0));
+    assert_eq!(bench.make(Call::Grow { book: first(17), pages: 0 }), (0, 9));
+    assert_eq!(bench.make(Call::Grow { book: first(17), pages: 119 }), (0, 9));
 }
 
 #[test]
 fn regions_of_case_11() {
     let mut bench = Bench::new();
-    bench.make(Call::Lay);
+    bench.make(Call::Lay(Version::Two));
     assert!((16..=22).all(|region| bench.make(Call::Open) == (0, region)));
     assert_eq!(bench.make(Call::Open), (11, 0));
-    assert_eq!(bench.make(Call::Release { region: 18 }), (0, 0));
+    assert_eq!(bench.make(Call::Release { book: first(18) }), (0, 0));
     assert_eq!(bench.make(Call::Open), (0, 18));
 }
 
@@ -136,12 +141,12 @@ fn region_2_is_found_and_not_called() {
         assert_eq!(bench.index_numbers(), [vec![0; 3], vec![blocks; 22], slots].concat());
         let before = bench.clone();
         for made in [
-            Call::Size { region: 2 },
-            Call::Grow { region: 2, pages: 0 },
-            Call::Grow { region: 2, pages: 1 },
-            Call::Load { region: 2, offset: 0 },
-            Call::Store { region: 2, offset: 0 },
-            Call::Release { region: 2 },
+            Call::Size { book: first(2) },
+            Call::Grow { book: first(2), pages: 0 },
+            Call::Grow { book: first(2), pages: 1 },
+            Call::Load { book: first(2), offset: 0 },
+            Call::Store { book: first(2), offset: 0 },
+            Call::Release { book: first(2) },
         ] {
             assert_eq!(bench.make(made), (8, 0), "{made:?}");
         }
@@ -159,8 +164,8 @@ fn growth_beside_region_2() {
         assert_eq!(bench.make(Call::Recover), (0, 0));
         assert_eq!(bench.make(Call::Open), (0, 16));
         let exceed = u64::div_ceil(pages, 8) + u64::div_ceil(growth, 8) > 16;
-        assert_eq!(bench.make(Call::Grow { region: 16, pages: growth }), if exceed { (10, 0) } else { (0, 0) });
-        assert_eq!(bench.make(Call::Release { region: 16 }), (0, 0));
+        assert_eq!(bench.make(Call::Grow { book: first(16), pages: growth }), if exceed { (10, 0) } else { (0, 0) });
+        assert_eq!(bench.make(Call::Release { book: first(16) }), (0, 0));
         let blocks = u64::div_ceil(pages, 8);
         assert!((0..blocks).all(|block| bench.entry(block) == [2, 0, block as u8, 0]));
         assert_eq!(Tables::read(BENCH, &bench.image).books[2], Some(pages));
@@ -174,7 +179,7 @@ fn growth_beside_region_2() {
 fn unused_reserve_of_request_9() {
     let mut bench = Bench::new();
     bench.image[16..].fill(7);
-    assert_eq!(bench.make(Call::Lay), (0, 0));
+    assert_eq!(bench.make(Call::Lay(Version::Two)), (0, 0));
     assert!(BENCH.unused() == (272..512) && bench.image[272..512] == [0; 240]);
     assert!(bench.image[512..].iter().all(|byte| *byte == 7));
     assert_eq!(bench.make(Call::Recover), (0, 0));
@@ -183,7 +188,7 @@ fn unused_reserve_of_request_9() {
         spoilt.image[at] = 1;
         assert_eq!(spoilt.make(Call::Recover), (16, 0), "byte {at}");
         assert_eq!(spoilt.make(Call::Open), (0, 16));
-        assert_eq!(spoilt.make(Call::Grow { region: 16, pages: 9 }), (0, 0));
+        assert_eq!(spoilt.make(Call::Grow { book: first(16), pages: 9 }), (0, 0));
         assert_eq!(spoilt.image[at], 1);
         // 16 comes before 5, and after 4.
         spoilt.image.truncate(512);
@@ -199,7 +204,7 @@ fn no_unused_reserve() {
     let g = Geometry { page: 164, pages: 1, blocks: 1, entries: 18 };
     let (mut image, mut index) = (vec![7; 328], vec![7; g.index_bytes()]);
     image[..16].fill(0);
-    for made in [Call::Lay, Call::Recover] {
+    for made in [Call::Lay(Version::Two), Call::Recover] {
         assert!(call(g, made, Lent { image: &mut image, index: &mut index, buffer: &mut [] }).is_ok());
     }
     assert!(g.unused().is_empty() && image[164..] == [7; 164]);
@@ -229,9 +234,9 @@ fn older_memories_of_request_2() {
         let index = bench.index.clone();
         assert_eq!(bench.make(Call::Recover), (0, 0));
         assert_eq!(bench.index, index);
-        assert_eq!(bench.make(Call::Size { region: 0 }), (0, pages));
+        assert_eq!(bench.make(Call::Size { book: first(0) }), (0, pages));
         let mut book = vec![0; pages as usize * 64];
-        assert!(bench.with(Call::Load { region: 0, offset: 0 }, &mut book).is_ok());
+        assert!(bench.with(Call::Load { book: first(0), offset: 0 }, &mut book).is_ok());
         assert!(book == memory[..book.len()], "{pages} pages in {bytes} bytes");
         assert_eq!(bench.make(Call::Open), (0, 16));
     }

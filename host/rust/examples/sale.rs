@@ -2,7 +2,7 @@
 
 use std::error::Error;
 
-use jaaturbal::{Books, Geometry, Offset, Pages, Refusal, Region};
+use jaaturbal::{Book, Books, Geometry, Offset, Pages, Refusal};
 
 const BID_BYTES: u64 = 16;
 
@@ -34,13 +34,23 @@ impl Bid {
 }
 
 /// Adds a bid after so many others. The book grows by a page when it is full.
-fn append(books: &mut Books, sale: Region, before: u64, bid: &Bid) -> Result<(), Refusal> {
+fn append(books: &mut Books, sale: Book, before: u64, bid: &Bid) -> Result<(), Refusal> {
     let at = Offset(before * BID_BYTES);
     if let Err(Refusal::BeyondBook) = books.store(sale, at, &bid.bytes()) {
         books.grow(sale, Pages(1))?;
         books.store(sale, at, &bid.bytes())?;
     }
     Ok(())
+}
+
+/// Opens books until one has this region: a region is opened again when all others were given out.
+fn opened_in(books: &mut Books, region: u32) -> Result<Book, Refusal> {
+    loop {
+        let book = books.open()?;
+        if book.region == region {
+            return Ok(book);
+        }
+    }
 }
 
 fn main() -> Result<(), Box<dyn Error>> {
@@ -56,7 +66,7 @@ fn main() -> Result<(), Box<dyn Error>> {
     let image = books.into_image();
     println!("the index is thrown away; {} bytes of image remain", image.len());
 
-    let books = Books::recover(Geometry::Bench, image)?;
+    let mut books = Books::recover(Geometry::Bench, image)?;
     for (before, bid) in (0..).zip(&bids) {
         let mut bytes = [0; BID_BYTES as usize];
         books.load(sale, Offset(before * BID_BYTES), &mut bytes)?;
@@ -68,5 +78,11 @@ fn main() -> Result<(), Box<dyn Error>> {
 
     let refused = books.load(sale, Offset(0), &mut [0; 4_096]);
     println!("a load that is too long: {}", refused.expect_err("the book is shorter"));
+
+    books.release(sale)?;
+    let other = opened_in(&mut books, sale.region)?;
+    books.grow(other, Pages(1))?;
+    let refused = books.store(sale, Offset(0), &bids[0].bytes());
+    println!("{other} is another sale; a bid for {sale}: {}", refused.expect_err("the name is stale"));
     Ok(())
 }

@@ -42,7 +42,7 @@ impl Geometry {
         }
     }
 
-    /// The entries of the region table. Books that are opened have numbers from 16 to this less 2.
+    /// The entries of the region table. Books that are opened have regions from 16 to this less 2.
     pub const fn regions(self) -> usize {
         match self {
             Geometry::Bench => 24,
@@ -65,18 +65,34 @@ impl Geometry {
     }
 }
 
-/// The number of a book.
+/// The name of a book: a region, and the edition of the book there, which counts how many were released from it before.
+///
+/// In an image of version 3 no name is given twice: that of a book that was released is refused for ever. An image of version 2 has
+/// edition 0 only, and names a region's next book as it named the last.
 #[derive(Clone, Copy, Debug, PartialEq, Eq, PartialOrd, Ord, Hash)]
-pub struct Region(pub u32);
-
-impl Region {
-    /// The book that is there from the start and cannot be released.
-    pub const ANONYMOUS: Region = Region(0);
+pub struct Book {
+    pub region: u32,
+    pub edition: u32,
 }
 
-impl fmt::Display for Region {
+impl Book {
+    /// The book that is there from the start and cannot be released.
+    pub const ANONYMOUS: Book = Book::first(0);
+
+    /// The first book of a region: in version 2 the only name that it has.
+    pub const fn first(region: u32) -> Book {
+        Book { region, edition: 0 }
+    }
+
+    /// The book that [`open`](crate::calls::open) answers: region + 65,536 × edition.
+    pub const fn opened(value: u64) -> Book {
+        Book { region: (value & 0xffff) as u32, edition: (value >> 16) as u32 }
+    }
+}
+
+impl fmt::Display for Book {
     fn fmt(&self, out: &mut fmt::Formatter<'_>) -> fmt::Result {
-        write!(out, "region {}", self.0)
+        write!(out, "region {}, edition {}", self.region, self.edition)
     }
 }
 

@@ -4,6 +4,8 @@
 //! loads and stores quick, and offers the manager's calls. The calls themselves are proved: whatever bytes an image holds,
 //! each answers exactly as its paper says, and a refused call changes nothing. [`calls`] has them as they are, on slices.
 //!
+//! A [`Book`] is named by region and edition, so that the name of a book that was released never comes to mean another.
+//!
 //! ```
 //! use jaaturbal::{Books, Geometry, Offset, Pages, Refusal};
 //!
@@ -17,6 +19,8 @@
 //! books.load(book, Offset(100), &mut bid)?;
 //! assert_eq!(&bid, b"lot 7: 120");
 //! assert_eq!(books.load(book, Offset(119), &mut bid), Err(Refusal::BeyondBook));
+//! books.release(book)?;
+//! assert_eq!(books.load(book, Offset(100), &mut bid), Err(Refusal::RegionNotUsable));
 //! # Ok(())
 //! # }
 //! ```
@@ -27,5 +31,5 @@ mod kinds;
 mod refusal;
 
 pub use books::Books;
-pub use kinds::{Geometry, Offset, Pages, Region};
+pub use kinds::{Book, Geometry, Offset, Pages};
 pub use refusal::Refusal;

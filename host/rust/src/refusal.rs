@@ -48,10 +48,11 @@ refusals! {
     RegionNotUsable = 8, "the region is kept back, out of range or not open";
     BeyondBook = 9, "the bytes asked for reach beyond the end of the book";
     NoBlocksLeft = 10, "the image has too few blocks left for this growth";
-    NoRegionLeft = 11, "every region is open";
+    NoRegionLeft = 11, "every region is open, or has come to its last edition";
     NotBlank = 12, "the image is not blank: its first 16 bytes are not zero";
     TooFewBlocks = 13, "the image has no whole block more than the older memory needs, or the geometry has too few blocks";
     NewerRelease = 16, "the image comes from a newer release, which uses bytes that this one keeps zero: open it with that release";
+    EditionWrong = 18, "the region's book is of another edition: the one that was named is gone, or never was";
 }
 
 impl Error for Refusal {}

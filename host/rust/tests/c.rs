@@ -18,6 +18,9 @@ fn sale_in_c() {
         .expect("cc, which also links Rust programs");
     assert!(built.success());
     let run = Command::new(&program).output().expect("the program just built");
-    let said = "20 bids read back from region 16, 10 pages\nafter release: refusal 8\n";
+    let said = "20 bids read back from region 16, edition 0, 10 pages\n\
+                after release: refusal 8\n\
+                region 16 opened again: edition 1\n\
+                a bid for edition 0: refusal 18\n";
     assert_eq!((String::from_utf8_lossy(&run.stdout).as_ref(), run.status.success()), (said, true));
 }

@@ -1,5 +1,5 @@
 -- `books::grow_tables` meets its contract.
-use Prim.Native.Nat.{_+_}
+use Prim.Native.Nat.{_+_, _≤_}
 use mathlib.Core.Path.{_∙_, ap}
 use Rattle.laws.specs.Folds.{steps}
 use Rattle.paper.specs.Geometry.{need}
@@ -26,6 +26,14 @@ old c = c .before .before .before
 abbrev counted : tie.After-grant-blocks → tie.After-need2
 counted c = c .before .before
 
+-- the new page count is small
+few : (c : tie.After-pages) → c .pages .result .0 + start (c .before) .args .pages .0 ≤ 8388608
+few c =
+    let s = start (c .before) in
+    let a = s .args in
+    let most = pages-most (a .g) (a .image .now) (a .index .now) (a .region .0) (a .pages .0) (s .pre) in
+    omega (arith, c .pages .ensures, most, book-pages-bound (a .g) (s .pre .ordered .geometry))
+
 pages-requires : tie.Need-pages-requires
 pages-requires c κs =
     let s = start c in
@@ -34,11 +42,7 @@ pages-requires c κs =
     (readable (a .g) (a .image .now) (a .index .now) (s .pre .ordered), inner)
 
 add-more : tie.Need-add-more
-add-more c =
-    let s = start (c .before .before .before) in
-    let a = s .args in
-    let most = pages-most (a .g) (a .image .now) (a .index .now) (a .region .0) (a .pages .0) (s .pre) in
-    record { fits = omega (arith, c .before .before .pages .ensures, most, book-pages-bound (a .g) (s .pre .ordered .geometry)) }
+add-more c = record { fits = omega (arith, few (c .before .before)) }
 
 need-requires : tie.Need-need-requires
 need-requires c κs = search needs
@@ -79,7 +83,7 @@ set-pages-requires c κs =
     let w = granted .grant-blocks in
     let before = readable (a .g) (a .image .now) (a .index .now) (s .pre .ordered) in
     let inner = inside (a .g) (a .image .now) (a .index .now) (a .region .0) (a .pages .0) (s .pre) in
-    (still-readable (a .g) (a .image .now) (w .last .1 .0) before (w .kept .1 .0), inner)
+    (still-readable (a .g) (a .image .now) (w .last .1 .0) before (w .kept .1 .0), (inner, omega (arith, few (old (counted granted .before)))))
 
 same-length : tie.Need-same-length
 same-length c = search needs

@@ -28,8 +28,8 @@ returns : tie.Need-returns
 returns c =
     let told = c .before .before .before in
     let a = start told .args in
-    told-refused (told .read-from .ensures) (c .before .reading .given .1) (load (a .region .0) (a .offset .0) (a .buffer .now))
-    (load-number (a .g) (a .image .now) (a .index .now) (a .region .0) (a .offset .0) (a .buffer .now))
+    told-refused (told .read-from .ensures) (c .before .reading .given .1) (load (a .region .0) (a .edition .0) (a .offset .0) (a .buffer .now))
+    (load-number (a .g) (a .image .now) (a .index .now) (a .region .0) (a .edition .0) (a .offset .0) (a .buffer .now))
 
 same-length : tie.Need-same-length
 same-length c = search needs
@@ -39,9 +39,9 @@ returns-2 c =
     let told = c .before .before .before .before .before .before .before in
     let a = start told .args in
     let T = told .read-from .ensures .accepted _ (c .before .before .before .before .before .reading2 .given .1) in
-    let k = load-number (a .g) (a .image .now) (a .index .now) (a .region .0) (a .offset .0) (a .buffer .now) ∙ T .0 in
+    let k = load-number (a .g) (a .image .now) (a .index .now) (a .region .0) (a .edition .0) (a .offset .0) (a .buffer .now) ∙ T .0 in
     rw (c .before .before .copy-out .ensures, T .1 .offset)
-    (sym (load-done (a .g) (lent (a .image .now) (a .index .now)) (a .region .0) (a .offset .0) (a .buffer .now) k))
+    (sym (load-done (a .g) (lent (a .image .now) (a .index .now)) (a .region .0) (a .edition .0) (a .offset .0) (a .buffer .now) k))
 
 pub load-spec : {M : Type 1} → statement M
 load-spec =

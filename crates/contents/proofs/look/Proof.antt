@@ -28,11 +28,11 @@ turned c = c .before .before .before
 
 -- a load of one byte is accepted, from this spot on
 from : (c : tie.After-known-told) → let a = start (told c) .args in
-    (readNo (a .g) (a .image .now) (a .index .now) (a .region .0) (a .offset .0) 1 ≡ 0) × IsSpot (a .g) (a .offset .0) (c .before .reading .given .0 .0)
+    (readNo (a .g) (a .image .now) (a .index .now) (a .region .0) (a .edition .0) (a .offset .0) 1 ≡ 0) × IsSpot (a .g) (a .offset .0) (c .before .reading .given .0 .0)
 from c = told c .read-from .ensures .accepted _ (c .before .reading .given .1)
 
 reads : (c : tie.After-known-told) → let a = start (told c) .args in Reads (a .g) (a .image .now) (a .index .now) (a .region .0) (a .offset .0) 1
-reads c = read-accepted _ _ _ _ _ 1 (from c .0)
+reads c = read-accepted _ _ _ _ _ _ 1 (from c .0) .0
 
 -- the stretch to the end of the book lies in the image
 left : (c : tie.After-first-stretch) → let a = start (told (turned c)) .args in
@@ -69,7 +69,7 @@ returns c =
     let at = c .before .before .before in
     let a = start at .args in
     let T = at .read-from .ensures .refused _ (c .before .enum-told .given .1) in
-    sym (look-empty (a .g) (a .region .0) (a .offset .0) (lent (a .image .now) (a .index .now)) (λ e. T .1 (sym (T .0) ∙ e)))
+    sym (look-empty (a .g) (a .region .0) (a .edition .0) (a .offset .0) (lent (a .image .now) (a .index .now)) (λ e. T .1 (sym (T .0) ∙ e)))
 
 book-bytes-requires : tie.Need-book-bytes-requires
 book-bytes-requires c κs =
@@ -110,7 +110,7 @@ returns-2 c =
     let a = start (told at) .args in
     let s = found .first-stretch in
     look-shows (a .g) (a .image .now) (a .index .now) (a .region .0) (a .offset .0) (reads at) _ (from at .1) _ (left found) (s .result) (s .ensures)
-    ∙ sym (look-part (a .g) (a .region .0) (a .offset .0) (lent (a .image .now) (a .index .now)) (from at .0))
+    ∙ sym (look-part (a .g) (a .region .0) (a .edition .0) (a .offset .0) (lent (a .image .now) (a .index .now)) (from at .0))
 
 pub look-spec : {M : Type 1} → statement M
 look-spec =

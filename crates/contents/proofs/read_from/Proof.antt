@@ -1,13 +1,12 @@
 -- `contents::read_from` meets its contract: a law for each return.
 use Prim.Native.Nat.{_+_, _*_, _<_, _≤_}
-use mathlib.Core.Bool.{true}
 use mathlib.Core.Path.{_≡_, sym, _∙_}
 use borrow.Author.Tests.{ltb-true, ltb-false, not-true, not-false}
 use Rattle.paper.specs.Geometry.{mostBookPages}
 use Rattle.paper.specs.Image.{front, pagesOf}
-use Rattle.paper.specs.Refusals.{usable, touchedRight}
+use Rattle.paper.specs.Refusals.{touchedRight}
 use Rattle.paper.proofs.Arithmetic.{book-bytes-bound}
-use Rattle.rules.specs.Facts.{Entered}
+use Rattle.rules.specs.Facts.{Entered, IsBook}
 use Rattle.rules.proofs.Usable.{usable-facts}
 use Rattle.rules.proofs.Lines.{entered-whole, entered-shown, book-shown, read-stop, read-book, read-9, read-7, read-0}
 use Rattle.stretches.specs.Stretch.{IsSpot}
@@ -33,11 +32,11 @@ entered : (c : tie.Else1) → let a = start1 c .args in Entered (a .g) (a .image
 entered c = entered-shown _ _ _ (sym (c .before .entered .ensures) ∙ c .if1 .left)
 
 book : (c : tie.Else2) → let a = start2 c .args in let t = front (a .g) (a .image .now) in
-    (usable (a .g) t (a .region .0) ≡ true) × (pagesOf (a .g) t (a .region .0) ≤ mostBookPages (a .g))
-book c = book-shown _ _ _ (sym (c .before .book-refusal .ensures) ∙ c .if2 .left)
+    IsBook (a .g) t (a .region .0) (a .edition .0) × (pagesOf (a .g) t (a .region .0) ≤ mostBookPages (a .g))
+book c = book-shown _ _ _ _ (sym (c .before .book-refusal .ensures) ∙ c .if2 .left)
 
 inside : (c : tie.Else2) → start2 c .args .region .0 < start2 c .args .g .entries
-inside c = let a = start2 c .args in omega (arith, usable-facts (a .g) (front (a .g) (a .image .now)) (a .region .0) (book c .0) .1)
+inside c = let a = start2 c .args in omega (arith, usable-facts (a .g) (front (a .g) (a .image .now)) (a .region .0) (book c .0 .usable) .1)
 
 within : (c : tie.Else3) → let a = start3 c .args in
     a .offset .0 + a .n ≤ pagesOf (a .g) (front (a .g) (a .image .now)) (a .region .0) * a .g .page
@@ -61,7 +60,7 @@ returns : tie.Need-returns
 returns c =
     let a = c .before .before .before .before .args in
     let no = c .before .entered in
-    tells-no (read-stop (a .g) (a .image .now) (a .index .now) (a .region .0) (a .offset .0) (a .n) (no .result) (no .ensures) (c .if1 .taken)) (c .if1 .taken)
+    tells-no (read-stop (a .g) (a .image .now) (a .index .now) (a .region .0) (a .edition .0) (a .offset .0) (a .n) (no .result) (no .ensures) (c .if1 .taken)) (c .if1 .taken)
 
 book-refusal-requires : tie.Need-book-refusal-requires
 book-refusal-requires c κs = entered-whole _ _ _ (entered c) .headed .readable
@@ -71,7 +70,7 @@ returns-2 c =
     let one = c .before .before in
     let a = start1 one .args in
     let no = c .before .book-refusal in
-    tells-no (read-book (a .g) (a .image .now) (a .index .now) (a .region .0) (a .offset .0) (a .n) (entered one) (no .result) (no .ensures) (c .if2 .taken)) (c .if2 .taken)
+    tells-no (read-book (a .g) (a .image .now) (a .index .now) (a .region .0) (a .edition .0) (a .offset .0) (a .n) (entered one) (no .result) (no .ensures) (c .if2 .taken)) (c .if2 .taken)
 
 beyond-requires : tie.Need-beyond-requires
 beyond-requires c κs = (entered-whole _ _ _ (entered (c .before .before)) .headed .readable, (inside c, book c .1))
@@ -81,7 +80,7 @@ returns-3 c =
     let two = c .before .before in
     let a = start2 two .args in
     let past = ltb-true _ _ (sym (c .before .beyond .ensures) ∙ c .if3 .taken) in
-    tells-no (read-9 (a .g) (a .image .now) (a .index .now) (a .region .0) (a .offset .0) (a .n) (entered (two .before .before)) (book two .0) (book two .1) past)
+    tells-no (read-9 (a .g) (a .image .now) (a .index .now) (a .region .0) (a .edition .0) (a .offset .0) (a .n) (entered (two .before .before)) (book two .0) (book two .1) past)
     (λ z. omega arith)
 
 spot-requires : tie.Need-spot-requires
@@ -104,7 +103,7 @@ returns-4 c =
     let a = start3 three .args in
     let wrong = sym (touched (c .before)) ∙ not-true _ (c .if4 .taken) in
     tells-no
-    (read-7 (a .g) (a .image .now) (a .index .now) (a .region .0) (a .offset .0) (a .n) (entered (two .before .before)) (book two .0) (book two .1) (within three) wrong)
+    (read-7 (a .g) (a .image .now) (a .index .now) (a .region .0) (a .edition .0) (a .offset .0) (a .n) (entered (two .before .before)) (book two .0) (book two .1) (within three) wrong)
     (λ z. omega arith)
 
 returns-5 : tie.Need-returns-5
@@ -113,13 +112,14 @@ returns-5 c =
     let two = three .before .before in
     let a = start3 three .args in
     tells-from
-    (read-0 (a .g) (a .image .now) (a .index .now) (a .region .0) (a .offset .0) (a .n) (record {
+    (read-0 (a .g) (a .image .now) (a .index .now) (a .region .0) (a .edition .0) (a .offset .0) (a .n) (record {
       entered = entered (two .before .before);
-      usable = book two .0;
+      usable = book two .0 .usable;
       fits = book two .1;
       within = within three;
       right = sym (touched (c .before)) ∙ not-false _ (c .if4 .left);
-    }))
+    })
+    (book two .0 .edition))
     (turned (c .before .before))
 
 pub read-from-spec : {M : Type 1} → statement M

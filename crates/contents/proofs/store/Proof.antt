@@ -31,8 +31,8 @@ returns : tie.Need-returns
 returns c =
     let told = c .before .before .before in
     let a = start told .args in
-    told-refused (told .read-from .ensures) (c .before .reading .given .1) (store (a .region .0) (a .offset .0) (a .bytes .now))
-    (store-number (a .g) (a .image .now) (a .index .now) (a .region .0) (a .offset .0) (a .bytes .now))
+    told-refused (told .read-from .ensures) (c .before .reading .given .1) (store (a .region .0) (a .edition .0) (a .offset .0) (a .bytes .now))
+    (store-number (a .g) (a .image .now) (a .index .now) (a .region .0) (a .edition .0) (a .offset .0) (a .bytes .now))
 
 same-length-2 : tie.Need-same-length-2
 same-length-2 c = search needs
@@ -42,9 +42,9 @@ returns-2 c =
     let told = c .before .before .before .before .before .before .before in
     let a = start told .args in
     let T = told .read-from .ensures .accepted _ (c .before .before .before .before .before .reading2 .given .1) in
-    let k = store-number (a .g) (a .image .now) (a .index .now) (a .region .0) (a .offset .0) (a .bytes .now) ∙ T .0 in
+    let k = store-number (a .g) (a .image .now) (a .index .now) (a .region .0) (a .edition .0) (a .offset .0) (a .bytes .now) ∙ T .0 in
     rw (c .before .before .copy-in .ensures, T .1 .offset)
-    (sym (store-done (a .g) (lent (a .image .now) (a .index .now)) (a .region .0) (a .offset .0) (a .bytes .now) k))
+    (sym (store-done (a .g) (lent (a .image .now) (a .index .now)) (a .region .0) (a .edition .0) (a .offset .0) (a .bytes .now) k))
 
 pub store-spec : {M : Type 1} → statement M
 store-spec =

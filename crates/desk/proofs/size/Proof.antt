@@ -26,8 +26,8 @@ returns : tie.Need-returns
 returns c =
     let a = c .before .before .before .args in
     let no = c .before .whole in
-    let k = size-stop (a .g) (a .image .now) [] (a .region .0) (no .result) (no .ensures) (c .if1 .taken) in
-    sym (refused (a .g) (size (a .region .0)) (lent (a .image .now) []) (no .result) k (c .if1 .taken))
+    let k = size-stop (a .g) (a .image .now) [] (a .region .0) (a .edition .0) (no .result) (no .ensures) (c .if1 .taken) in
+    sym (refused (a .g) (size (a .region .0) (a .edition .0)) (lent (a .image .now) []) (no .result) k (c .if1 .taken))
 
 book-refusal-requires : tie.Need-book-refusal-requires
 book-refusal-requires c κs = unharmed c .headed .readable
@@ -37,23 +37,23 @@ returns-2 c =
     let one = c .before .before in
     let a = start1 one .args in
     let no = c .before .book-refusal in
-    let k = size-on (a .g) (a .image .now) [] (a .region .0) (unharmed one) ∙ sym (no .ensures) in
-    sym (refused (a .g) (size (a .region .0)) (lent (a .image .now) []) (no .result) k (c .if2 .taken))
+    let k = size-on (a .g) (a .image .now) [] (a .region .0) (a .edition .0) (unharmed one) ∙ sym (no .ensures) in
+    sym (refused (a .g) (size (a .region .0) (a .edition .0)) (lent (a .image .now) []) (no .result) k (c .if2 .taken))
 
 pages-requires : tie.Need-pages-requires
 pages-requires c κs =
     let one = c .before .before in
     let a = start1 one .args in
-    let may = book-shown (a .g) (a .image .now) (a .region .0) (sym (c .before .book-refusal .ensures) ∙ c .if2 .left) .0 in
-    (unharmed one .headed .readable, omega (arith, usable-facts (a .g) _ (a .region .0) may .1))
+    let book = book-shown (a .g) (a .image .now) (a .region .0) (a .edition .0) (sym (c .before .book-refusal .ensures) ∙ c .if2 .left) .0 in
+    (unharmed one .headed .readable, omega (arith, usable-facts (a .g) _ (a .region .0) (book .usable) .1))
 
 returns-3 : tie.Need-returns-3
 returns-3 c =
     let two = c .before in
     let one = two .before .before in
     let a = start1 one .args in
-    let k = size-on (a .g) (a .image .now) [] (a .region .0) (unharmed one) ∙ sym (two .before .book-refusal .ensures) ∙ two .if2 .left in
-    rw (c .pages .ensures) (sym (size-done (a .g) (lent (a .image .now) []) (a .region .0) k))
+    let k = size-on (a .g) (a .image .now) [] (a .region .0) (a .edition .0) (unharmed one) ∙ sym (two .before .book-refusal .ensures) ∙ two .if2 .left in
+    rw (c .pages .ensures) (sym (size-done (a .g) (lent (a .image .now) []) (a .region .0) (a .edition .0) k))
 
 pub size-spec : {M : Type 1} → statement M
 size-spec =

@@ -26,7 +26,7 @@ abbrev state : tie.After-lay-refusal → State
 state c = let a = at-start c .args in lent (a .image .now) (a .index .now)
 
 -- no refusal applies
-accepted : (c : tie.Else1) → refusal (at-start (c .before) .args .g) (state (c .before) .image) (state (c .before) .index) lay ≡ 0
+accepted : (c : tie.Else1) → refusal (at-start (c .before) .args .g) (state (c .before) .image) (state (c .before) .index) (lay (at-start (c .before) .args .version)) ≡ 0
 accepted c = sym (c .before .lay-refusal .ensures) ∙ c .if1 .left
 
 lay-refusal-requires : tie.Need-lay-refusal-requires
@@ -41,16 +41,16 @@ same-length-2 c = search needs
 returns : tie.Need-returns
 returns c =
     let no = c .before .lay-refusal in
-    sym (refused (at-start (c .before) .args .g) lay (state (c .before)) (no .result) (sym (no .ensures)) (c .if1 .taken))
+    sym (refused (at-start (c .before) .args .g) (lay (at-start (c .before) .args .version)) (state (c .before)) (no .result) (sym (no .ensures)) (c .if1 .taken))
 
 write-reserve-requires : tie.Need-write-reserve-requires
 write-reserve-requires c κs =
-    let f = lay-accepted _ _ _ (accepted (c .before)) in
+    let f = lay-accepted _ _ _ _ (accepted (c .before)) in
     (record { allowed = f .0; long = f .2 }, omega (arith, need-zero (at-start (c .before .before) .args .g) (f .0 .pages-least)))
 
 write-empty-index-requires : tie.Need-write-empty-index-requires
 write-empty-index-requires c κs =
-    let f = lay-accepted _ _ _ (accepted (at-accepted (c .before .before .before))) in
+    let f = lay-accepted _ _ _ _ (accepted (at-accepted (c .before .before .before))) in
     record { allowed = f .0; long = f .1 }
 
 same-length-3 : tie.Need-same-length-3
@@ -62,8 +62,8 @@ same-length-4 c = search needs
 returns-2 : tie.Need-returns-2
 returns-2 c =
     let k = at-accepted (at-reserve (c .before .before)) in
-    let g = at-start (k .before) .args .g in
-    cc (lay-done g (state (k .before)) (accepted k), moved-none g (lay-accepted _ _ _ (accepted k) .0))
+    let a = at-start (k .before) .args in
+    cc (lay-done (a .g) (state (k .before)) (a .version) (accepted k), moved-none (a .g) (lay-accepted _ _ _ _ (accepted k) .0) (a .version))
 
 pub lay-spec : {M : Type 1} → statement M
 lay-spec =

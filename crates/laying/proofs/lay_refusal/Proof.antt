@@ -27,7 +27,7 @@ returns : tie.Need-returns
 returns c =
     let a = at-start (c .before) .args in
     let no = c .before .lent in
-    sym (lay-stop (a .g) (a .image .now) (a .index .now) (no .result) (no .ensures) (c .if1 .taken))
+    sym (lay-stop (a .g) (a .image .now) (a .index .now) (a .version) (no .result) (no .ensures) (c .if1 .taken))
 
 blank-requires : tie.Need-blank-requires
 blank-requires c κs = let R = passed c .0 in omega (arith, R .allowed .reserve, R .long)
@@ -37,14 +37,14 @@ returns-2 c =
     let one = c .before .before in
     let a = at-start (one .before) .args in
     let f = passed one in
-    sym (lay-12 (a .g) (a .image .now) (a .index .now) (f .0) (f .1) (sym (c .before .blank .ensures) ∙ not-true _ (c .if2 .taken)))
+    sym (lay-12 (a .g) (a .image .now) (a .index .now) (f .0) (f .1) (a .version) (sym (c .before .blank .ensures) ∙ not-true _ (c .if2 .taken)))
 
 returns-3 : tie.Need-returns-3
 returns-3 c =
     let one = c .before .before in
     let a = at-start (one .before) .args in
     let f = passed one in
-    sym (lay-0 (a .g) (a .image .now) (a .index .now) (f .0) (f .1) (sym (c .before .blank .ensures) ∙ not-false _ (c .if2 .left)))
+    sym (lay-0 (a .g) (a .image .now) (a .index .now) (f .0) (f .1) (a .version) (sym (c .before .blank .ensures) ∙ not-false _ (c .if2 .left)))
 
 pub lay-refusal-spec : {M : Type 1} → statement M
 lay-refusal-spec = tie.close (tie.spec lent-requires returns blank-requires returns-2 returns-3)

@@ -1,5 +1,6 @@
 -- `laying::write_header` meets its contract.
-use Rattle.paper.specs.Geometry.{version, fixedRegions}
+use Rattle.paper.specs.Geometry.{fixedRegions}
+use Rattle.paper.specs.Calls.{versionNumber}
 use Rattle.rules.proofs.Written.{header-put}
 use borrow.Author.Needs.{needs}
 use Rattle.laying.proofs.write_header.Statement.{statement}
@@ -10,7 +11,7 @@ abbrev at-start : tie.After-write-u32 → tie.Start
 at-start c = c .before .before .before
 
 abbrev at-marker : tie.After-write-u322 → tie.After-write-u32
-at-marker c = c .before .before .before .before
+at-marker c = c .before .before .before .before .before
 
 abbrev at-version : tie.After-write-u16 → tie.After-write-u322
 at-version c = c .before .before .before .before
@@ -23,6 +24,9 @@ at-counter c = c .before .before .before .before
 
 write-u32-requires : tie.Need-write-u32-requires
 write-u32-requires c κs = search needs
+
+version-number-requires : tie.Need-version-number-requires
+version-number-requires c κs = search needs
 
 write-u32-requires-2 : tie.Need-write-u32-requires-2
 write-u32-requires-2 c κs = search needs
@@ -45,13 +49,14 @@ same-length c = search needs
 returns : tie.Need-returns
 returns c =
     let start = at-start (at-marker (at-version (at-taken (at-counter (c .before .before))))) in
-    cc (header-put version (start .args .taken) fixedRegions (start .args .image .now))
+    cc (header-put (versionNumber (start .args .version)) (start .args .taken) fixedRegions (start .args .image .now))
 
 pub write-header-spec : {M : Type 1} → statement M
 write-header-spec =
     tie.close
     (tie.spec
     write-u32-requires
+    version-number-requires
     write-u32-requires-2
     write-u16-requires
     cast-write-u16

@@ -2,8 +2,9 @@
 use mathlib.Core.Path.{_∙_, ap}
 use Rattle.laws.specs.Folds.{joinBelow}
 use Rattle.laws.specs.Bytes.{splice}
-use Rattle.paper.specs.Geometry.{version, fixedRegions, sizeAt}
+use Rattle.paper.specs.Geometry.{fixedRegions, sizeAt}
 use Rattle.paper.specs.Image.{writtenHeader, entryRow, sizeRow}
+use Rattle.paper.specs.Calls.{versionNumber}
 use Rattle.paper.specs.Move.{movedOwner, movedPlace, movedSize}
 use Rattle.rules.proofs.Fronts.{front-fits}
 use Rattle.rules.proofs.Moved.{moved-joined}
@@ -48,11 +49,11 @@ returns c =
     let s = at-start b in
     let a = s .args in
     let n = b .before .before .need in
-    let sizes = joinBelow (a .g .entries) (sizeRow (movedSize (a .pages .0))) in
+    let sizes = joinBelow (a .g .entries) (sizeRow (versionNumber (a .version)) (movedSize (a .pages .0))) in
     let entries = joinBelow (a .g .blocks) (entryRow (movedOwner (a .g) (n .result)) (movedPlace (n .result))) in
     h .write-header .ensures
-    ∙ ap (splice 0 (writtenHeader version (n .result) fixedRegions)) (r .write-regions .ensures ∙ ap (splice (sizeAt (a .g) 0) sizes) (b .write-blocks .ensures))
-    ∙ moved-joined (a .g) (a .pages .0) (n .result) (a .image .now) (n .ensures) (front-fits (a .g) (a .image .now) (s .pre .0))
+    ∙ ap (splice 0 (writtenHeader (versionNumber (a .version)) (n .result) fixedRegions)) (r .write-regions .ensures ∙ ap (splice (sizeAt (a .g) 0) sizes) (b .write-blocks .ensures))
+    ∙ moved-joined (a .g) (a .version) (a .pages .0) (n .result) (a .image .now) (n .ensures) (front-fits (a .g) (a .image .now) (s .pre .0))
 
 pub write-tables-spec : {M : Type 1} → statement M
 write-tables-spec =

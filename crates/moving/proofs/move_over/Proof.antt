@@ -1,5 +1,6 @@
 -- `moving::move_over` meets its contract: refused, or the block copied, the reserve written and the index.
 use mathlib.Core.Path.{_≡_, sym, _∙_, ap}
+use Rattle.paper.specs.declared.Version.the-variants.{Two}
 use Rattle.paper.specs.Image.{blanked}
 use Rattle.paper.specs.Move.{movedFront, movedImage, moveRefusal}
 use Rattle.paper.specs.Outcomes.{State, lent}
@@ -37,11 +38,11 @@ movable c = let a = at-start (c .before) .args in move-accepted (a .g) (a .image
 
 -- the image after the reserve is written
 is-moved : (w : tie.After-write-reserve) → let a = at-start (at-accepted (at-block w) .before) .args in
-    w .write-reserve .last .1 .0 ≡ movedImage (a .g) (a .pages .0) (a .image .now)
+    w .write-reserve .last .1 .1 .0 ≡ movedImage (a .g) (a .pages .0) (a .image .now)
 is-moved w =
     let b = at-block w in
     let a = at-start (at-accepted b .before) .args in
-    w .write-reserve .ensures ∙ ap (λ y. fronted (a .g) (movedFront (a .g) (a .pages .0)) (blanked (a .g) y)) (b .move-block .ensures)
+    w .write-reserve .ensures ∙ ap (λ y. fronted (a .g) (movedFront (a .g) Two (a .pages .0)) (blanked (a .g) y)) (b .move-block .ensures)
 
 move-refusal-requires : tie.Need-move-refusal-requires
 move-refusal-requires c κs = search needs
@@ -76,7 +77,7 @@ write-index-requires c κs =
     let w = c .before .before .before .before in
     let one = at-accepted (at-block w) in
     let a = at-start (one .before) .args in
-    moved-writable (a .g) (a .pages .0) (a .image .now) (a .index .now) (movable one) (w .write-reserve .last .1 .0) (is-moved w)
+    moved-writable (a .g) (a .pages .0) (a .image .now) (a .index .now) (movable one) (w .write-reserve .last .1 .1 .0) (is-moved w)
 
 same-length-3 : tie.Need-same-length-3
 same-length-3 c = search needs
@@ -90,7 +91,7 @@ returns-2 c =
     let w = at-reserve v in
     let one = at-accepted (at-block w) in
     let a = at-start (one .before) .args in
-    moved-left (a .g) (a .pages .0) (a .image .now) (a .index .now) (movable one) (w .write-reserve .last .1 .0) (is-moved w) (v .write-index .last .1 .1 .0) (v .write-index .ensures)
+    moved-left (a .g) (a .pages .0) (a .image .now) (a .index .now) (movable one) (w .write-reserve .last .1 .1 .0) (is-moved w) (v .write-index .last .1 .1 .0) (v .write-index .ensures)
     ∙ sym (move-done (a .g) (a .pages .0) (state (one .before)) (accepted one))
 
 pub move-over-spec : {M : Type 1} → statement M

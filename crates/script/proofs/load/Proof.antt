@@ -1,6 +1,8 @@
 -- `load` tells what a load tells: the sum of its bytes, or the refusal.
+use mathlib.Core.Path.{sym, _∙_, ap}
 use Rattle.paper.specs.Outcomes.{lent}
-use Rattle.script.proofs.Told.{load-refused, load-done}
+use Rattle.paper.specs.Script.{summed}
+use Rattle.script.proofs.Told.{load-other, load-done}
 use borrow.Author.Needs.{needs}
 use Rattle.script.proofs.load.Statement.{statement}
 use Rattle.script.proofs.load.Tie as tie
@@ -15,32 +17,45 @@ load-requires c κs = search needs
 enum-told : tie.Need-enum-told
 enum-told c = search needs
 
+sum-requires : tie.Need-sum-requires
+sum-requires c κs = search needs
+
 enum-told-2 : tie.Need-enum-told-2
 enum-told-2 c = search needs
+
+enum-told-3 : tie.Need-enum-told-3
+enum-told-3 c = search needs
 
 same-length : tie.Need-same-length
 same-length c = search needs
 
 returns : tie.Need-returns
 returns c =
-    let w = c .before .before .before .before in
+    let told = c .before .before in
+    let w = told .before .before .before .before in
     let a = start w .args in
-    let E = c .enum-told2 .given in
-    load-refused (a .region .0) (a .offset .0) (a .bytes .now) _ _ (lent (a .image .now) (a .index .now)) (w .load .ensures) _ (E .1)
-
-sum-requires : tie.Need-sum-requires
-sum-requires c κs = search needs
+    let E = told .enum-told .given in
+    load-done (a .region .0) 0 (a .offset .0) (a .bytes .now) _ _ (lent (a .image .now) (a .index .now)) (w .load .ensures) _ _ (E .1) (c .sum .ensures)
 
 same-length-2 : tie.Need-same-length-2
 same-length-2 c = search needs
 
 returns-2 : tie.Need-returns-2
 returns-2 c =
-    let told = c .before .before in
-    let w = told .before .before .before .before in
+    let w = c .before .before .before .before in
     let a = start w .args in
-    let E = told .enum-told .given in
-    load-done (a .region .0) (a .offset .0) (a .bytes .now) _ _ (lent (a .image .now) (a .index .now)) (w .load .ensures) _ _ (E .1) (c .sum .ensures)
+    let E = c .enum-told2 .given in
+    load-other (a .region .0) 0 (a .offset .0) (a .bytes .now) _ _ (lent (a .image .now) (a .index .now)) (w .load .ensures) (ap (summed _) (E .1) ∙ sym (E .1))
+
+same-length-3 : tie.Need-same-length-3
+same-length-3 c = search needs
+
+returns-3 : tie.Need-returns-3
+returns-3 c =
+    let w = c .before .before .before .before in
+    let a = start w .args in
+    let E = c .enum-told3 .given in
+    load-other (a .region .0) 0 (a .offset .0) (a .bytes .now) _ _ (lent (a .image .now) (a .index .now)) (w .load .ensures) (ap (summed _) (E .1) ∙ sym (E .1))
 
 pub load-spec : {M : Type 1} → statement M
 load-spec =
@@ -48,9 +63,12 @@ load-spec =
     (tie.spec
     load-requires
     enum-told
+    sum-requires
     enum-told-2
+    enum-told-3
     same-length
     returns
-    sum-requires
     same-length-2
-    returns-2)
+    returns-2
+    same-length-3
+    returns-3)

@@ -17,9 +17,6 @@ lay-requires c κs = search needs
 enum-told : tie.Need-enum-told
 enum-told c = search needs
 
-enum-told-2 : tie.Need-enum-told-2
-enum-told-2 c = search needs
-
 returns : tie.Need-returns
 returns c = search needs
 
@@ -45,7 +42,6 @@ main-spec =
     slice-aggregate-lay-2
     lay-requires
     enum-told
-    enum-told-2
     returns
     slice-aggregate-run
     slice-aggregate-run-2

@@ -73,7 +73,7 @@ returns-2 c =
     let a = start (r .before) .args in
     let s = lent (a .image .now) (a .index .now) in
     operation-is (a .step .now) s 2 _ (two .if2 .taken)
-    (call-kept (grow (r .read-u16 .result) (o .read-u64 .result)) _ [] _ s (w .grow .ensures)
+    (call-kept (grow (r .read-u16 .result) 0 (o .read-u64 .result)) _ [] _ s (w .grow .ensures)
     ∙ rw (r .read-u16 .ensures, o .read-u64 .ensures))
 
 shared-slice-read-b : tie.Need-shared-slice-read-b
@@ -144,7 +144,7 @@ returns-4 c =
     let n = count .read-u32 .result in
     operation-is (a .step .now) s 4 _ (four .if4 .taken)
     (c .before .load .ensures
-    ∙ buffer-replaced _ _ _ (replicate n 0) s (b .buffer3 .given .2 ∙ sub-zero n ∙ sym (length-replicate n 0))
+    ∙ buffer-replaced _ _ _ _ (replicate n 0) s (b .buffer3 .given .2 ∙ sub-zero n ∙ sym (length-replicate n 0))
     ∙ rw (r .read-u16 .ensures, o .read-u64 .ensures, count .read-u32 .ensures))
 
 release-requires : tie.Need-release-requires
@@ -167,7 +167,7 @@ returns-5 c =
     let a = start (r .before) .args in
     let s = lent (a .image .now) (a .index .now) in
     operation-is (a .step .now) s 5 _ (five .if5 .taken)
-    (call-kept (release (r .read-u16 .result)) _ [] _ s (w .release .ensures)
+    (call-kept (release (r .read-u16 .result) 0) _ [] _ s (w .release .ensures)
     ∙ rw (r .read-u16 .ensures))
 
 size-requires : tie.Need-size-requires
@@ -186,7 +186,7 @@ returns-6 c =
     let a = start (r .before) .args in
     let s = lent (a .image .now) (a .index .now) in
     operation-is (a .step .now) s 6 _ (six .if6 .taken)
-    (size-kept (r .read-u16 .result) _ (a .image .now) (a .index .now) (c .size .ensures) ∙ rw (r .read-u16 .ensures))
+    (size-kept (r .read-u16 .result) 0 _ (a .image .now) (a .index .now) (c .size .ensures) ∙ rw (r .read-u16 .ensures))
 
 recover-requires : tie.Need-recover-requires
 recover-requires c κs = search needs

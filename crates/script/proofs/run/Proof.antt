@@ -44,11 +44,11 @@ part-perform-end c = search needs
 perform-requires : tie.Need-perform-requires Inv-loop μ-loop
 perform-requires c κs = search needs
 
+valued-requires : tie.Need-valued-requires Inv-loop μ-loop
+valued-requires c κs = search needs
+
 enum-known-a : tie.Need-enum-known-a Inv-loop μ-loop
 enum-known-a c = search needs
-
-enum-told : tie.Need-enum-told Inv-loop μ-loop
-enum-told c = search needs
 
 print-refusal-requires : tie.Need-print-refusal-requires Inv-loop μ-loop
 print-refusal-requires c κs = search needs
@@ -94,8 +94,8 @@ run-spec =
     part-perform-start
     part-perform-end
     perform-requires
+    valued-requires
     enum-known-a
-    enum-told
     print-refusal-requires
     loop-less
     loop-again

@@ -35,8 +35,8 @@ returns c =
     let f = filled w in
     let a = start f .args in
     let s = lent (a .image .now) (a .index .now) in
-    call-kept (store (a .region .0) (a .offset .0) (f .fill .last .0)) _ [] _ s (w .store .ensures)
-    ∙ ap (λ (ys : List ℕ). called (store (a .region .0) (a .offset .0) ys) s) (f .fill .ensures)
+    call-kept (store (a .region .0) 0 (a .offset .0) (f .fill .last .0)) _ [] _ s (w .store .ensures)
+    ∙ ap (λ (ys : List ℕ). called (store (a .region .0) 0 (a .offset .0) ys) s) (f .fill .ensures)
 
 pub store-spec : {M : Type 1} → statement M
 store-spec = tie.close (tie.spec fill-requires store-requires same-length same-length-2 returns)

@@ -1,5 +1,5 @@
 -- `tables::draw` meets its contract.
-use Prim.Native.Nat.{_-_}
+use Prim.Native.Nat.{_-_, _*_, _≤_}
 use borrow.Author.Tests.{lt-ltb, le-ltb}
 use Rattle.paper.proofs.Arithmetic.{pages-bound}
 use native.Mathlib.Omega.{arith}
@@ -10,6 +10,10 @@ use Rattle.tables.proofs.draw.Tie as tie
 -- where the call began, seen from the test
 abbrev start : tie.After-struct-known → tie.Start
 start c = c .before .before
+
+-- the pages of region 1's blocks are few
+few : (s : tie.Start) → let a = s .args in (a .s .spare - 1 - a .j) * a .g .pages ≤ 8388608
+few s = let a = s .args in pages-bound (a .g) (s .pre .0 .allowed) (a .s .spare - 1 - a .j) (omega (arith, s .pre .1 .0))
 
 add-set-taken : tie.Need-add-set-taken
 add-set-taken c = search needs
@@ -34,13 +38,12 @@ sub-n-2 : tie.Need-sub-n-2
 sub-n-2 c = search needs
 
 mul-n : tie.Need-mul-n
-mul-n c =
-    let s = c .before .before .before .before .before in
-    let a = s .args in
-    record { fits = omega (arith, pages-bound (a .g) (s .pre .0 .allowed) (a .s .spare - 1 - a .j) (omega (arith, s .pre .1 .0))) }
+mul-n c = let s = c .before .before .before .before .before in record { fits = omega (arith, few s) }
 
 set-pages-requires : tie.Need-set-pages-requires
-set-pages-requires c κs = search needs
+set-pages-requires c κs =
+    let s = start (c .before .before .before .before) in
+    (s .pre .0, (omega (arith, s .pre .0 .allowed .entries-least), omega (arith, few s)))
 
 same-length-2 : tie.Need-same-length-2
 same-length-2 c = search needs

@@ -26,8 +26,8 @@ returns c =
     let e = both .before .counter .ensures in
     rw (lt-ltb (counter (a .g) (front (a .g) (a .image .now))) (noRegion (a .g)) (omega (arith, e, both .no-region .ensures, c .if1 .taken))) e
 
-lowest-not-open-requires : tie.Need-lowest-not-open-requires
-lowest-not-open-requires c κs = search needs
+lowest-openable-requires : tie.Need-lowest-openable-requires
+lowest-openable-requires c κs = search needs
 
 returns-2 : tie.Need-returns-2
 unfolding nextRegion
@@ -36,9 +36,9 @@ returns-2 c =
     let a = start both .args in
     let e = both .before .counter .ensures in
     rw (le-ltb (counter (a .g) (front (a .g) (a .image .now))) (noRegion (a .g)) (omega (arith, e, both .no-region .ensures, c .before .if1 .left)))
-    (c .lowest-not-open .ensures)
+    (c .lowest-openable .ensures)
 
 pub next-region-spec : {M : Type 1} → statement M
 next-region-spec =
     tie.close
-    (tie.spec counter-requires no-region-requires returns lowest-not-open-requires returns-2)
+    (tie.spec counter-requires no-region-requires returns lowest-openable-requires returns-2)
