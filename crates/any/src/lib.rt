@@ -1,5 +1,7 @@
 // The calls over any four numbers for a geometry, for tests and measurements alone: as host's, with the four in place of a geometry's
 // number. No call asks that they be allowed.
+#![tactic(auto)]
+
 ghost use Rattle.std.specs.Prelude.{◌≡◌, []};
 ghost use Rattle.paper.specs.declared.Version.TheVariants.{Two, Three};
 ghost use Rattle.paper.specs.Calls.{lay, «open», grow, load, store, size, release, recover};

@@ -1,4 +1,6 @@
 // The calls that change the tables: open, grow and release.
+#![tactic(auto)]
+
 ghost use Rattle.std.specs.Prelude.{◌≡◌, true, [], ◌*◌, ◌^◌, ◌<◌, length};
 ghost use Rattle.paper.specs.Geometry.{capacity};
 ghost use Rattle.paper.specs.Image.{front, pages_of, is_open};

@@ -1,5 +1,7 @@
 // The bench table through the compiled calls: a line for each case, with eight of the house after them, and case 11 amended for version 3.
 // The table is walked row by row, and a case holds where each of its rows does.
+#![tactic(auto)]
+
 use libc::STDOUT_FILENO;
 use paper::{Answer, Edition, Geometry, Offset, Pages, Region, Version};
 

@@ -1,4 +1,6 @@
 // The calls on a book's contents: load, store and look.
+#![tactic(auto)]
+
 ghost use Rattle.std.specs.Prelude.{[], ◌≡◌, ◌+◌, ◌*◌, ◌<◌, ◌≤◌, ltb};
 ghost use Rattle.paper.specs.Geometry.{most_book_pages};
 ghost use Rattle.paper.specs.Image.{front, pages_of};
@@ -10,7 +12,7 @@ ghost use Rattle.contents.specs.Reading.{Told};
 use paper::{Answer, Edition, Geometry, Offset, Region, Spot};
 
 // Where the bytes of a load, store or look start, or the number of the refusal.
-#[derive(Drop)]
+#[derive(Clone, Copy)]
 enum Reading {
     From(Spot),
     No(u8),

@@ -1,4 +1,6 @@
 // The refusals that calls share, each in its order, and the call that asks nothing else: size.
+#![tactic(auto)]
+
 ghost use Rattle.std.specs.Prelude.{◌≡◌, [], ◌<◌, eqb, ltb, length};
 ghost use Rattle.paper.specs.Geometry.{capacity};
 ghost use Rattle.paper.specs.Image.{front, taken, edition_of};

@@ -1,4 +1,6 @@
 // The calls for a host in C or Rust: numbers and byte slices only. Each is a line over the call of the same name.
+#![tactic(auto)]
+
 ghost use Rattle.std.specs.Prelude.{◌≡◌, []};
 ghost use Rattle.paper.specs.declared.Version.TheVariants.{Two, Three};
 ghost use Rattle.paper.specs.Calls.{lay, «open», grow, load, store, size, release, recover};

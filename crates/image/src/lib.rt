@@ -1,4 +1,6 @@
 // The stored image: header and tables read and written, and the rules a to e checked. Nothing above this crate knows an offset of them.
+#![tactic(auto)]
+
 ghost use Rattle.std.specs.Prelude.{◌≡◌, ◌%◌, ◌^◌, ◌<◌, ◌≤◌, not, ◌&&◌, ◌||◌, eqb};
 ghost use Rattle.laws.specs.Folds.{all_below, all_from};
 ghost use Rattle.paper.specs.Geometry.{version2, version3, size_bytes, all_ones, last_edition, fixed_regions, reclaimed, no_region};

@@ -1,4 +1,6 @@
 // The index: what a lent one says, its writing, and its check against the tables.
+#![tactic(auto)]
+
 ghost use Rattle.std.specs.Prelude.{◌≡◌, ◌+◌, ◌*◌, ◌/◌, ◌≤◌, ◌<◌, eqb, length};
 ghost use Rattle.laws.specs.Bytes.{put};
 ghost use Rattle.laws.specs.Folds.{all_below, all_from};
@@ -231,7 +233,7 @@ const SLOTS_AT_ONCE: usize = 32768;
 const MARK_BYTES: usize = 4096;
 
 // Regions from `first` up to `last`, and of their slots those from `from` up to `to`.
-#[derive(Drop)]
+#[derive(Clone, Copy)]
 struct Window {
     first: Region,
     last: Region,

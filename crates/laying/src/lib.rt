@@ -1,4 +1,6 @@
 // The reserve of a new image, empty or of one book; and the call that lays an empty one.
+#![tactic(auto)]
+
 ghost use Rattle.std.specs.Prelude.{◌≡◌, [], ◌+◌, ◌^◌, ◌≤◌, ◌<◌, length};
 ghost use Rattle.laws.specs.Folds.{join_below};
 ghost use Rattle.laws.specs.Bytes.{splice, put};

@@ -1,4 +1,6 @@
 // The copying leaf and the look for a byte that is not zero, each by itself, for a host that measures them.
+#![tactic(auto)]
+
 ghost use Rattle.std.specs.Prelude.{◌≡◌};
 ghost use Rattle.leaves.specs.Copy.{answered, left};
 ghost use Rattle.leaves.specs.Look.{looked};

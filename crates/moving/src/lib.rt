@@ -1,4 +1,6 @@
 // The call that moves an older memory over: its bytes, which ran from byte 0, become region 0 of an image.
+#![tactic(auto)]
+
 ghost use Rattle.std.specs.Prelude.{◌≡◌, [], ◌≤◌, length};
 ghost use Rattle.paper.specs.Geometry.{need, capacity};
 ghost use Rattle.paper.specs.Move.{moved_data, move_refusal, move_outcome};

@@ -1,4 +1,6 @@
 // Recovery, and the check of a lent index against what recovery would give.
+#![tactic(auto)]
+
 ghost use Rattle.std.specs.Prelude.{◌≡◌, [], ◌≤◌};
 ghost use Rattle.paper.specs.Image.{front, taken};
 ghost use Rattle.paper.specs.WellFormed.{in_order};

@@ -1,4 +1,6 @@
 // The script program: lays a zeroed image in BENCH, of version 2, then does what the records of 16 bytes on standard input say, a line for each.
+#![tactic(auto)]
+
 ghost use Rattle.std.specs.Prelude.{◌≡◌, ◌≤◌, length, replicate};
 ghost use Rattle.paper.specs.Calls.{load, store};
 ghost use Rattle.paper.specs.Outcomes.{lent};

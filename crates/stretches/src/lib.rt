@@ -1,5 +1,7 @@
 // The stretches of a book that n bytes from an offset on touch: found in the index, checked, and copied. The offset comes as a spot, turned
 // once; a walk then goes on from block to block, divides nothing, and ends when no byte is left.
+#![tactic(auto)]
+
 ghost use Rattle.std.specs.Prelude.{◌≡◌, ◌+◌, ◌^◌, ◌≤◌, ◌<◌, length, replicate};
 ghost use Rattle.laws.specs.Bytes.{splice};
 ghost use Rattle.paper.specs.Geometry.{Allowed, block_bytes, data_at};
@@ -13,7 +15,7 @@ ghost use Rattle.stretches.specs.Stretch.{block_from, offset_of, in_block, IsStr
 use paper::{Block, Geometry, Position, Region, Spot};
 
 // So many bytes from `at` on in the image.
-#[derive(Drop)]
+#[derive(Clone, Copy)]
 pub struct Stretch {
     pub at: usize,
     pub bytes: usize,

@@ -1,4 +1,6 @@
 // The tables changed block by block: a block given to a book, a book's blocks given back, a region opened.
+#![tactic(auto)]
+
 ghost use Rattle.std.specs.Prelude.{◌≡◌, ℕ, ◌+◌, ◌≤◌, ◌<◌};
 ghost use Rattle.laws.specs.Folds.{steps};
 ghost use Rattle.paper.specs.Image.{front, taken, owner, place, need_of};
@@ -11,7 +13,7 @@ ghost use Rattle.rules.specs.Facts.{Readable, fronted, Indexed};
 use paper::{Block, Geometry, Pages, Position, Region};
 
 // What a growth starts from: the blocks that the book holds, region 1's blocks, and N. While it is made the tables change and this does not.
-#[derive(Drop)]
+#[derive(Clone, Copy)]
 pub struct Stock {
     pub held: usize,
     pub spare: usize,
