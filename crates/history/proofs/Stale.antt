@@ -121,7 +121,7 @@ module _ (g : Geometry) (bytes r e : ℕ) where
         go : (b : Book) → m.books r ≡ b → (c : Bool) → callable r ≡ c → Dead g s r e
         go absent h c d = record { number = 8; which = inl refl; hidden = A.gone r h e }
         go (holding x xs) h true d = record { number = 18; which = inr refl; hidden = A.stale r x xs d h e (λ z. omega (arith, A.current r x xs h)) }
-        go (holding x xs) h false d = record { number = 8; which = inl refl; hidden = A.Kept-back r d e }
+        go (holding x xs) h false d = record { number = 8; which = inl refl; hidden = A.kept_back r d e }
 
     not_given : Spent m r e → (outcome g «open» s).answer ≢ opening r e
     not_given (inl l) z = let a = A.opens r e z in omega (arith, a.3)
