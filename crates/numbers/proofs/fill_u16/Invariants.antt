@@ -1,0 +1,11 @@
+-- `i` numbers stand from `at` on.
+use Prim.Native.Nat.{◌-◌, ◌≤◌}
+use mathlib.Core.Path.{◌≡◌, refl, sym, ap, ◌∙◌}
+use lib.ListN.{length}
+use Rattle.laws.specs.Folds.{join_below}
+use Rattle.laws.specs.Bytes.{le, splice, put}
+use native.Mathlib.Omega.{arith}
+use Rattle.numbers.proofs.fill_u16.Given as goal
+
+abbrev pub invariant-loop-i : goal.invariant-loop-i
+invariant-loop-i l = (l.i ≤ l.n) × (length l.s ≡ length l.initial.s) × (l.s ≡ splice l.at (join_below l.i (λ _. le 2 l.v)) l.initial.s)
