@@ -1,0 +1,42 @@
+-- `image::set_pages` meets its contract.
+use Prim.Native.Nat.{ℕ, ◌+◌, ◌≤◌}
+use mathlib.Core.Path.{◌≡◌, sym, ◌∙◌, ap}
+use mathlib.Core.List.{List}
+use native.Mathlib.Omega.{arith}
+use Rattle.laws.specs.Bytes.{put}
+use Rattle.paper.specs.declared.Geometry.{Geometry}
+use Rattle.paper.specs.Geometry.{size_at, front_bytes}
+use Rattle.paper.specs.Image.{front, version_of, size_width, set_pages}
+use Rattle.rules.specs.Facts.{Readable, fronted}
+use Rattle.rules.proofs.Cells.{version3_width, version2_width, set_pages-put}
+use Rattle.rules.proofs.Fronts.{put_front}
+use borrow.Author.Rules.{rules}
+use Rattle.image.proofs.set_pages.Goals as goal
+
+in-width : (g : Geometry) (image : List ℕ) → Readable g image → (r n w : ℕ) → size_width (version_of g (front g image)) ≡ w → size_at g r + w ≤ front_bytes g
+    → put w (size_at g r) n image ≡ fronted g (set_pages g r n (front g image)) image
+in-width g image R r n w e h = rw (set_pages-put g r (front g image) n, e) (put_front g image R w (size_at g r) n h)
+
+pub returns-then-is_version_3 : goal.returns-then-is_version_3
+returns-then-is_version_3 c =
+    let w = c in
+    let z = w in
+    let three = z in
+    let s = three in
+    let a = s.args in
+    let v = version_of a.g (front a.g a.image.now) in
+    w.write_u32.ensures
+    ∙ ap (λ (o : ℕ). put 4 o a.n.0 a.image.now) z.size_at.ensures
+    ∙ in-width a.g a.image.now s.requires.readable a.r.0 a.n.0 4 (version3_width v (sym three.is_version_3.ensures ∙ three.if-is_version_3.true)) (omega arith)
+
+pub returns-else-is_version_3 : goal.returns-else-is_version_3
+returns-else-is_version_3 c =
+    let w = c in
+    let z = w in
+    let two = z in
+    let s = two in
+    let a = s.args in
+    let v = version_of a.g (front a.g a.image.now) in
+    w.write_u64.ensures
+    ∙ ap (λ (o : ℕ). put 8 o a.n.0 a.image.now) z.size_at-else-is_version_3.ensures
+    ∙ in-width a.g a.image.now s.requires.readable a.r.0 a.n.0 8 (version2_width v (sym two.is_version_3.ensures ∙ two.if-is_version_3.false)) (omega arith)
