@@ -1,0 +1,37 @@
+-- The starts stand, the slots from N up are empty, and every block below `b` stands in its slot.
+use Prim.Native.Nat.{ℕ, ◌-◌, ◌≤◌, ◌<◌}
+use mathlib.Core.Path.{◌≡◌, refl, ◌∙◌}
+use lib.ListN.{length}
+use Rattle.paper.specs.Image.{front, taken}
+use Rattle.paper.specs.Index.{slot_in}
+use Rattle.rules.specs.Facts.{slot_for, Indexed}
+use Rattle.index.specs.Witnessed.{Starts, Spare}
+use Rattle.index.proofs.Filling.{starts_kept, spare_kept, block_more}
+use native.Mathlib.Omega.{arith}
+use borrow.Author.Count.{below_none}
+use borrow.Author.Rules.{rules}
+use Rattle.index.proofs.put_blocks.Goals as goal
+use Rattle.index.proofs.put_blocks.Goals.{At-loop-b, In-loop-b}
+
+-- the block to put is taken
+inside : (c : In-loop-b) → let a = c.args in c.loop-b.b < taken a.g (front a.g a.image.now)
+inside c = omega (arith, c.taken-b-end.ensures)
+
+-- the index is as long as it was
+indexed : (c : At-loop-b) → Indexed c.args.g c.loop-b.index
+indexed c = let p = c.requires in record { allowed = p.0.1.allowed; long = c.loop-b.invariant.1 ∙ p.0.1.long }
+
+pub loop-b-preserved : goal.loop-b-preserved
+loop-b-preserved c =
+    let w = c in
+    let x = w in
+    let a = x.args in
+    let p = x.requires in
+    let t = front a.g a.image.now in
+    let l = inside (goal.at.loop-b-preserved c).In-loop-b in (
+      omega arith,
+      w.put_block.auto.index.1.0 ∙ x.loop-b.invariant.1,
+      rw w.put_block.ensures (starts_kept a.g t x.loop-b.index (indexed (goal.at.loop-b-preserved c).At-loop-b) p.1.0 p.0.0.bound x.loop-b.b l x.loop-b.invariant.2),
+      rw w.put_block.ensures (spare_kept a.g t x.loop-b.index (indexed (goal.at.loop-b-preserved c).At-loop-b) p.1.0 p.0.0.bound x.loop-b.b l x.loop-b.invariant.3),
+      rw w.put_block.ensures (block_more a.g t x.loop-b.index (indexed (goal.at.loop-b-preserved c).At-loop-b) p.1.0 p.0.0.bound x.loop-b.b l x.loop-b.invariant.4),
+    )

@@ -1,0 +1,99 @@
+-- Every start before `r` stands, and `start` is the next.
+use Prim.Native.Nat.{ℕ, ◌+◌, ◌-◌, ◌≤◌, ◌<◌}
+use mathlib.Core.Path.{◌≡◌, refl, sym, ap, ◌∙◌}
+use mathlib.Core.List.{List}
+use lib.ListN.{length}
+use Rattle.laws.specs.Folds.{join_below}
+use Rattle.laws.specs.Bytes.{le, splice, put}
+use Rattle.laws.proofs.Folds.{sum_none, sum_more}
+use Rattle.paper.specs.Image.{front, need_of}
+use Rattle.paper.specs.Index.{start_of, start_in}
+use Rattle.rules.specs.Facts.{Indexed}
+use Rattle.rules.proofs.Sentences.{start_given}
+use Rattle.index.proofs.Slots.{need_inside, start_below}
+use Rattle.index.proofs.Filling.{start_more, starts_filled}
+use native.Mathlib.Omega.{arith}
+use borrow.Author.Count.{below_none}
+use borrow.Author.Rules.{rules}
+use Rattle.index.proofs.write_starts.Goals as goal
+use Rattle.index.proofs.write_starts.Goals.{At-loop-r, In-loop-r}
+
+-- the index stays as long as it was
+indexed : (x : At-loop-r) → Indexed x.args.g x.loop-r.index
+indexed x = let p = x.requires in record { allowed = p.0.1.allowed; long = x.loop-r.invariant.1 ∙ p.0.1.long }
+
+-- the start and the region's need fit 2 bytes
+fits : (c : In-loop-r) → let x = c in let a = x.args in
+    x.loop-r.start + need_of a.g (front a.g a.image.now) x.loop-r.r < 65536
+fits c =
+    let x = c in
+    let a = x.args in
+    let p = x.requires in
+    let inside = need_inside a.g (front a.g a.image.now) p.0.0.slotted x.loop-r.r (omega (arith, x.given_out-end.ensures)) in
+    omega (arith, inside, p.0.0.bound, p.0.1.allowed.blocks_most)
+
+-- so does the last
+last_fits : (x : At-loop-r) → x.loop-r.start < 65536
+last_fits x =
+    let a = x.args in
+    let p = x.requires.tabled in
+    let below = start_below a.g (front a.g a.image.now) p.0.slotted x.loop-r.r (omega (arith, x.loop-r.invariant.0, x.given_out-end.ensures)) in
+    omega (arith, x.loop-r.invariant.2, below, p.0.bound, p.1.allowed.blocks_most)
+
+pub loop-r-init : goal.loop-r-init
+loop-r-init c =
+    let a = c.args in
+    (omega arith, refl, sym (sum_none (need_of a.g (front a.g a.image.now))), below_none _)
+
+-- OLD overflow-cast-write-u16 has no new goal: cast-write-u16 c = omega (arith, fits c.before.before)
+
+-- OLD overflow-add-start has no new goal: add_start c =
+--       let s = c.before.before.before.before in
+--       omega (arith, fits s.before.before)
+
+pub loop-r-preserved : goal.loop-r-preserved
+loop-r-preserved c =
+    let w = c in
+    let s = w in
+    let a = (s).args in
+    let x = s.loop-r in
+    let t = front a.g a.image.now in
+    let l : x.r ≤ a.g.entries = omega (arith, s.given_out-end.ensures) in
+    let I = indexed (goal.at.loop-r-preserved c).At-loop-r in
+    let e = w.write_u16.ensures ∙ ap (λ o. put 2 o x.start x.index) s.start_at.ensures in (
+      omega arith,
+      w.write_u16.auto.s ∙ x.invariant.1,
+      omega (arith, sum_more x.r (need_of a.g t)),
+      rw e (start_more a.g t x.index I x.r x.start l (omega (arith, fits (goal.at.loop-r-preserved c).In-loop-r)) x.invariant.2 x.invariant.3),
+    )
+
+-- OLD overflow-add-fill-u16 has no new goal: add-fill-u16 c = omega (arith, (at-start (ended c.before)).pre.0.1.allowed.entries_most)
+
+-- OLD overflow-sub-fill-u16 has no new goal: sub-fill-u16 c = omega (arith, (ended c.before.before).before.given_out.ensures)
+
+-- OLD overflow-cast-fill-u16-2 has no new goal: cast-fill-u16-2 c = omega (arith, last_fits (ended c.before.before))
+
+pub returns : goal.returns
+returns c =
+    let f = c in
+    let n = f in
+    let x = n in
+    let v = x.given_out-end in
+    let a = x.args in
+    let t = front a.g a.image.now in
+    let all : x.loop-r.r ≡ v.result.0 = omega (arith, x.loop-r.invariant.0, n.loop-r-test.false) in
+    let filled : ℕ → List ℕ = λ o. splice o (join_below (a.g.entries + 1 - v.result.0) (λ _. le 2 x.loop-r.start)) x.loop-r.index in
+    rw (f.fill_u16.ensures ∙ ap filled n.start_at-2.ensures)
+    (starts_filled a.g t x.loop-r.index (indexed (goal.at.returns c).At-loop-r) v.result.0 x.loop-r.start (omega (arith, v.ensures)) (last_fits (goal.at.returns c).At-loop-r)
+    (x.loop-r.invariant.2 ∙ ap (start_of a.g t) all)
+    (λ q h. start_given a.g t x.requires.high q (omega (arith, v.ensures)) ∙ sym (ap (start_of a.g t) v.ensures))
+    (λ q h. x.loop-r.invariant.3 q (omega arith)))
+
+pub overflow_cast-start : goal.overflow_cast-start
+overflow_cast-start c = ?
+
+pub overflow_add-start : goal.overflow_add-start
+overflow_add-start c = ?
+
+pub overflow_cast-start-2 : goal.overflow_cast-start-2
+overflow_cast-start-2 c = ?
