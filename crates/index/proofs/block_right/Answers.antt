@@ -18,22 +18,22 @@ below : (s : Start) → s.args.b.0 < s.args.g.blocks
 below s = omega (arith, s.requires.summed.bound, s.requires.b_bound)
 
 -- the owner is a region
-inside : (c : Else-g-r) → let a = (c).args in owner a.g (front a.g a.image.now) a.b.0 < a.g.entries
+inside : (c : Else-g-r) → let a = c.args in owner a.g (front a.g a.image.now) a.b.0 < a.g.entries
 inside c = omega (arith, c.owner-r.ensures)
 
 -- what is told of the slot, and of the next start
-slot : (c : After-place) → let s = (c) in let a = s.args in let t = front a.g a.image.now in
+slot : (c : After-place) → let s = c in let a = s.args in let t = front a.g a.image.now in
     c.start_in.result + c.place.result.0 ≡ start_in a.g a.index.now (owner a.g t a.b.0) + place a.g t a.b.0
 slot c =
-    let a = ((c)).args in
-    let known = c.start_in.ensures ∙ ap (start_in a.g a.index.now) (c).owner.ensures in
+    let a = c.args in
+    let known = c.start_in.ensures ∙ ap (start_in a.g a.index.now) c.owner-r.ensures in
     omega (arith, known, c.place.ensures)
 
 next : (c : After-start_in-2) → let a = c.args in
     c.start_in-2.result ≡ start_in a.g a.index.now (owner a.g (front a.g a.image.now) a.b.0 + 1)
 next c =
     let a = c.args in
-    c.start_in-2.ensures ∙ ap (λ (r : ℕ). start_in a.g a.index.now (r + 1)) (c).owner.ensures
+    c.start_in-2.ensures ∙ ap (λ (r : ℕ). start_in a.g a.index.now (r + 1)) c.owner-r.ensures
 
 pub returns-then-g-r : goal.returns-then-g-r
 returns-then-g-r c =
@@ -41,12 +41,13 @@ returns-then-g-r c =
     let a = o.args in
     sym (and_false_left _ (named_past a.g (front a.g a.image.now) a.b.0 (omega (arith, o.owner-r.ensures))))
 
--- OLD overflow-add-s has no new goal: add-s c =
---       let o = at-owner (at-start c.before).before in
---       let s = start1 o in
---       let a = s.args in
---       let fits = place_fits a.g a.image.now a.b.0 (below s) (λ i. (o.before.before.shared-slice-known.given i).fits) in
---       omega (arith, c.before.place.ensures, fits)
+pub overflow_add-s : goal.overflow_add-s
+overflow_add-s c =
+    let o = c in
+    let s = o in
+    let a = s.args in
+    let fits = place_fits a.g a.image.now a.b.0 (below (goal.at.overflow_add-s c).Start) (λ i. (c.type_inv.image i).fits) in
+    omega (arith, c.place.ensures, fits)
 
 pub returns-then-start_in-s : goal.returns-then-start_in-s
 returns-then-start_in-s c =
@@ -74,6 +75,3 @@ returns c =
     let i = inside (goal.at.returns c).Else-g-r in
     ap (λ (x : ℕ). eqb x a.b.0) (v.slot_in.ensures ∙ ap (slot_in a.g a.index.now) (slot (goal.at.returns c).After-place))
     ∙ right_slot a.g (front a.g a.image.now) a.index.now s.requires.summed a.b.0 i (omega (arith, next (goal.at.returns c).After-start_in-2, slot (goal.at.returns c).After-place))
-
-pub overflow_add-s : goal.overflow_add-s
-overflow_add-s c = ?

@@ -13,7 +13,7 @@ use borrow.Author.Tests.{eq-eqb, ne_eqb}
 use Rattle.index.proofs.ends_right.Given as goal
 
 abbrev pub invariant-loop-r : goal.invariant-loop-r
-invariant-loop-r l = (l.initial.r ≤ l.r) × (l.r ≤ l.r-end) × (all_from l.initial.r l.r (is l.g l.index l.n) ≡ true)
+invariant-loop-r l = (l.initial.r ≤ l.r) × (l.r ≤ l.r-end) × (all_from l.initial.r l.r (λ k. eqb (start_in l.g l.index k) l.n) ≡ true)
 
 abbrev pub decreases-loop-r : goal.decreases-loop-r
 decreases-loop-r l = l.r-end - l.r

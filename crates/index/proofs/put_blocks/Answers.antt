@@ -19,7 +19,7 @@ inside c = omega (arith, c.taken-b-end.ensures)
 
 -- the index is as long as it was
 indexed : (c : At-loop-b) → Indexed c.args.g c.loop-b.index
-indexed c = let p = c.requires in record { allowed = p.0.1.allowed; long = c.loop-b.invariant.1 ∙ p.0.1.long }
+indexed c = let p = c.requires in record { allowed = p.tabled.1.allowed; long = c.loop-b.invariant.1 ∙ p.tabled.1.long }
 
 pub loop-b-preserved : goal.loop-b-preserved
 loop-b-preserved c =
@@ -30,8 +30,8 @@ loop-b-preserved c =
     let t = front a.g a.image.now in
     let l = inside (goal.at.loop-b-preserved c).In-loop-b in (
       omega arith,
-      w.put_block.auto.index.1.0 ∙ x.loop-b.invariant.1,
-      rw w.put_block.ensures (starts_kept a.g t x.loop-b.index (indexed (goal.at.loop-b-preserved c).At-loop-b) p.1.0 p.0.0.bound x.loop-b.b l x.loop-b.invariant.2),
-      rw w.put_block.ensures (spare_kept a.g t x.loop-b.index (indexed (goal.at.loop-b-preserved c).At-loop-b) p.1.0 p.0.0.bound x.loop-b.b l x.loop-b.invariant.3),
-      rw w.put_block.ensures (block_more a.g t x.loop-b.index (indexed (goal.at.loop-b-preserved c).At-loop-b) p.1.0 p.0.0.bound x.loop-b.b l x.loop-b.invariant.4),
+      w.put_block.auto.index ∙ x.loop-b.invariant.1,
+      rw w.put_block.ensures (starts_kept a.g t x.loop-b.index (indexed (goal.at.loop-b-preserved c).At-loop-b) p.rules p.tabled.0.bound x.loop-b.b l x.loop-b.invariant.2),
+      rw w.put_block.ensures (spare_kept a.g t x.loop-b.index (indexed (goal.at.loop-b-preserved c).At-loop-b) p.rules p.tabled.0.bound x.loop-b.b l x.loop-b.invariant.3),
+      rw w.put_block.ensures (block_more a.g t x.loop-b.index (indexed (goal.at.loop-b-preserved c).At-loop-b) p.rules p.tabled.0.bound x.loop-b.b l x.loop-b.invariant.4),
     )

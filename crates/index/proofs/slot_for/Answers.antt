@@ -16,10 +16,11 @@ below s = let a = s.args in owner_below a.g (front a.g a.image.now) s.requires.t
 pub start_in-start-requires-clause-r_le_entries : goal.start_in-start-requires-clause-r_le_entries
 start_in-start-requires-clause-r_le_entries c = (omega (arith, below (goal.at.start_in-start-requires-clause-r_le_entries c).Start))
 
--- OLD overflow-add-result has no new goal: add-result c =
---       let a = (start2 c).args in
---       let p = (start2 c).requires in
---       omega (arith, slot_below a.g (front a.g a.image.now) p.0.0.slotted a.b.0 p.1.1, p.0.0.bound)
+pub overflow_add-result : goal.overflow_add-result
+overflow_add-result c =
+    let a = c.args in
+    let p = c.requires in
+    omega (arith, slot_below a.g (front a.g a.image.now) p.tabled.0.slotted a.b.0 p.b_bound, p.tabled.0.bound)
 
 pub returns : goal.returns
 returns c =
@@ -29,6 +30,3 @@ returns c =
     let l : r ≤ a.g.entries = omega (arith, below (goal.at.returns c).Start) in
     let known = ap (start_in a.g a.index.now) c.owner.ensures ∙ s.requires.starts r l in
     omega (arith, c.start_in-start.ensures ∙ known)
-
-pub overflow_add-result : goal.overflow_add-result
-overflow_add-result c = ?

@@ -21,7 +21,7 @@ blocks_right-requires-clause-summed c =
     let a = c.args in
     let p = c.requires in
     let f = starts_facts a.g (front a.g a.image.now) a.index.now (starts (goal.at.blocks_right-requires-clause-summed c).Else-not-starts_right) in
-    (record { starts = f.0; total = f.1; bound = p.1.1 })
+    (record { starts = f.0; total = f.1; bound = p.high.1 })
 
 pub returns-then-not-blocks_right : goal.returns-then-not-blocks_right
 unfolding witnessed

@@ -20,7 +20,7 @@ use Rattle.index.proofs.write_starts.Goals.{At-loop-r, In-loop-r}
 
 -- the index stays as long as it was
 indexed : (x : At-loop-r) → Indexed x.args.g x.loop-r.index
-indexed x = let p = x.requires in record { allowed = p.0.1.allowed; long = x.loop-r.invariant.1 ∙ p.0.1.long }
+indexed x = let p = x.requires in record { allowed = p.tabled.1.allowed; long = x.loop-r.invariant.1 ∙ p.tabled.1.long }
 
 -- the start and the region's need fit 2 bytes
 fits : (c : In-loop-r) → let x = c in let a = x.args in
@@ -29,8 +29,8 @@ fits c =
     let x = c in
     let a = x.args in
     let p = x.requires in
-    let inside = need_inside a.g (front a.g a.image.now) p.0.0.slotted x.loop-r.r (omega (arith, x.given_out-end.ensures)) in
-    omega (arith, inside, p.0.0.bound, p.0.1.allowed.blocks_most)
+    let inside = need_inside a.g (front a.g a.image.now) p.tabled.0.slotted x.loop-r.r (omega (arith, x.given_out-end.ensures)) in
+    omega (arith, inside, p.tabled.0.bound, p.tabled.1.allowed.blocks_most)
 
 -- so does the last
 last_fits : (x : At-loop-r) → x.loop-r.start < 65536
@@ -45,17 +45,19 @@ loop-r-init c =
     let a = c.args in
     (omega arith, refl, sym (sum_none (need_of a.g (front a.g a.image.now))), below_none _)
 
--- OLD overflow-cast-write-u16 has no new goal: cast-write-u16 c = omega (arith, fits c.before.before)
+pub overflow_cast-start : goal.overflow_cast-start
+overflow_cast-start c = omega (arith, fits (goal.at.overflow_cast-start c).In-loop-r)
 
--- OLD overflow-add-start has no new goal: add_start c =
---       let s = c.before.before.before.before in
---       omega (arith, fits s.before.before)
+pub overflow_add-start : goal.overflow_add-start
+overflow_add-start c =
+    let s = c in
+    omega (arith, fits (goal.at.overflow_add-start c).In-loop-r)
 
 pub loop-r-preserved : goal.loop-r-preserved
 loop-r-preserved c =
     let w = c in
     let s = w in
-    let a = (s).args in
+    let a = s.args in
     let x = s.loop-r in
     let t = front a.g a.image.now in
     let l : x.r ≤ a.g.entries = omega (arith, s.given_out-end.ensures) in
@@ -67,11 +69,8 @@ loop-r-preserved c =
       rw e (start_more a.g t x.index I x.r x.start l (omega (arith, fits (goal.at.loop-r-preserved c).In-loop-r)) x.invariant.2 x.invariant.3),
     )
 
--- OLD overflow-add-fill-u16 has no new goal: add-fill-u16 c = omega (arith, (at-start (ended c.before)).pre.0.1.allowed.entries_most)
-
--- OLD overflow-sub-fill-u16 has no new goal: sub-fill-u16 c = omega (arith, (ended c.before.before).before.given_out.ensures)
-
--- OLD overflow-cast-fill-u16-2 has no new goal: cast-fill-u16-2 c = omega (arith, last_fits (ended c.before.before))
+pub overflow_cast-start-2 : goal.overflow_cast-start-2
+overflow_cast-start-2 c = omega (arith, last_fits (goal.at.overflow_cast-start-2 c).At-loop-r)
 
 pub returns : goal.returns
 returns c =
@@ -88,12 +87,3 @@ returns c =
     (x.loop-r.invariant.2 ∙ ap (start_of a.g t) all)
     (λ q h. start_given a.g t x.requires.high q (omega (arith, v.ensures)) ∙ sym (ap (start_of a.g t) v.ensures))
     (λ q h. x.loop-r.invariant.3 q (omega arith)))
-
-pub overflow_cast-start : goal.overflow_cast-start
-overflow_cast-start c = ?
-
-pub overflow_add-start : goal.overflow_add-start
-overflow_add-start c = ?
-
-pub overflow_cast-start-2 : goal.overflow_cast-start-2
-overflow_cast-start-2 c = ?
