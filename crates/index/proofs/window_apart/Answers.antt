@@ -4,8 +4,7 @@ use mathlib.Core.Path.{◌≡◌, refl, sym, ◌∙◌}
 use lib.ListN.{length, get_or-replicate}
 use Rattle.laws.proofs.Folds.{all_none, all_more, not_all}
 use Rattle.paper.specs.Image.{front, taken}
-use Rattle.index.specs.Repeats.{in_window, apart}
-use Rattle.index.proofs.Marks.{digit_least}
+use Rattle.index.specs.Repeats.{apart}
 use Rattle.index.proofs.Repeats.{passes, marks_none, marks_more, unseen_free}
 use native.Mathlib.Omega.{arith}
 use Rattle.index.proofs.window_apart.Goals as goal

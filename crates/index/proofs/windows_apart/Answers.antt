@@ -4,7 +4,7 @@ use mathlib.Core.Path.{refl, sym, ◌∙◌}
 use Rattle.laws.proofs.Folds.{sum_mono}
 use Rattle.paper.specs.Image.{front, need_of}
 use Rattle.index.proofs.Slots.{start_below}
-use Rattle.index.proofs.Repeats.{apart_none, apart_join, apart_part, run_exact}
+use Rattle.index.proofs.Repeats.{apart_none, apart_join, apart_part}
 use native.Mathlib.Omega.{arith}
 use Rattle.index.proofs.windows_apart.Goals as goal
 use Rattle.index.proofs.windows_apart.Goals.{Start}
