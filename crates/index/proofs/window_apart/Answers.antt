@@ -51,8 +51,8 @@ loop-b-preserved c =
       omega arith,
       c.mark.auto.seen ∙ c.loop-b.invariant.1,
       rw (c.mark.ensures.seen_after, c.in_window-one.ensures, c.slot_by-s.ensures)
-      (marks_more a.g t a.w a.starts.now p.tabled.0.slotted p.tabled.1 p.run.0
-      c.loop-b.b (inside (goal.at.loop-b-preserved c).In-loop-b) c.loop-b.seen c.loop-b.invariant.2 (omega (arith, c.zero.auto.part))),
+          (marks_more a.g t a.w a.starts.now p.tabled.0.slotted p.tabled.1 p.run.0
+          c.loop-b.b (inside (goal.at.loop-b-preserved c).In-loop-b) c.loop-b.seen c.loop-b.invariant.2 (omega (arith, c.zero.auto.part))),
       all_more c.loop-b.b (passes a.g t a.w.from a.w.to) c.loop-b.invariant.3 once,
     )
 
