@@ -1,13 +1,11 @@
 -- No two blocks stand in one slot of a region before `r`, whose start is `from`.
-use Prim.Native.Nat.{◌+◌, ◌-◌, ◌%◌, ◌≤◌, ◌<◌}
+use Prim.Native.Nat.{◌-◌, ◌%◌, ◌≤◌, ◌<◌}
 use mathlib.Core.Bool.{true}
-use mathlib.Core.Path.{◌≡◌, refl, sym, ◌∙◌}
+use mathlib.Core.Path.{◌≡◌}
 use lib.ListN.{length}
-use Rattle.paper.specs.Image.{front, taken}
+use Rattle.paper.specs.Image.{front}
 use Rattle.paper.specs.Index.{start_of}
 use Rattle.index.specs.Repeats.{regions_at_once, apart}
-use native.Mathlib.Omega.{arith}
-use borrow.Author.Tests.{not-true, not-false}
 use Rattle.index.proofs.all_apart.Given as goal
 
 abbrev pub invariant-loop-from : goal.invariant-loop-from

@@ -2,11 +2,9 @@
 use mathlib.Core.Path.{◌∙◌}
 use Rattle.paper.specs.Image.{front}
 use Rattle.index.proofs.Repeats.{apart_alone}
-use borrow.Author.Rules.{rules}
 use Rattle.index.proofs.alone_all.Goals as goal
 
 pub returns : goal.returns
 returns c =
-    let all = c in
-    let a = all.args in
-    all.all_apart.ensures ∙ apart_alone a.g (front a.g a.image.now) all.requires.slotted
+    let a = c.args in
+    c.all_apart.ensures ∙ apart_alone a.g (front a.g a.image.now) c.requires.slotted

@@ -1,11 +1,10 @@
 -- The starts of the regions from `first` up to `r` stand, and the sum is the next.
-use Prim.Native.Nat.{◌+◌, ◌-◌, ◌≤◌, ◌<◌}
-use mathlib.Core.Path.{◌≡◌, refl}
-use lib.ListN.{length, length-set}
-use Rattle.paper.specs.Image.{front, need_of}
+use Prim.Native.Nat.{◌≤◌}
+use mathlib.Core.Path.{◌≡◌}
+use lib.ListN.{length}
+use Rattle.paper.specs.Image.{front}
 use Rattle.paper.specs.Index.{start_of}
 use Rattle.index.specs.Repeats.{StartsFrom}
-use native.Mathlib.Omega.{arith}
 use Rattle.index.proofs.read_starts.Given as goal
 
 abbrev pub invariant-loop-r : goal.invariant-loop-r

@@ -1,16 +1,11 @@
 -- The bit of a slot is set exactly where a block below `b` stands in it, and no two of these stand in one slot of the window.
-use Prim.Native.Nat.{ℕ, ◌-◌, ◌/◌, ◌%◌, ◌≤◌, ◌<◌}
+use Prim.Native.Nat.{◌≤◌}
 use mathlib.Core.Bool.{true}
-use mathlib.Core.Path.{◌≡◌, refl, sym, ◌∙◌, ap, ap₂}
-use lib.ListN.{length, get_or-replicate}
+use mathlib.Core.Path.{◌≡◌}
+use lib.ListN.{length}
 use Rattle.laws.specs.Folds.{all_below}
-use Rattle.laws.proofs.Folds.{all_none, all_more, not_all}
-use Rattle.paper.specs.Image.{front, taken}
-use Rattle.index.specs.Repeats.{slots_at_once, mark_bytes, digit, unseen, marked, apart, slot_by, in_window}
-use Rattle.index.proofs.Marks.{digit_least}
-use Rattle.index.proofs.Repeats.{Marks, passes, marks_none, marks_more, unseen_free}
-use native.Mathlib.Omega.{arith}
-use borrow.Author.Tests.{not-true, not-false}
+use Rattle.paper.specs.Image.{front}
+use Rattle.index.proofs.Repeats.{Marks, passes}
 use Rattle.index.proofs.window_apart.Given as goal
 
 abbrev pub invariant-loop-b : goal.invariant-loop-b

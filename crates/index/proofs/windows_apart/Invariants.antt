@@ -1,12 +1,10 @@
 -- No two blocks stand in one slot before `from`; while slots are left, those before it are of earlier runs.
 use Prim.Native.Nat.{ℕ, ◌-◌, ◌/◌, ◌≤◌, ◌<◌}
 use mathlib.Core.Bool.{true}
-use mathlib.Core.Path.{◌≡◌, refl, sym, ◌∙◌}
+use mathlib.Core.Path.{◌≡◌}
 use lib.ListN.{length}
-use Rattle.paper.specs.Image.{front, need_of}
+use Rattle.paper.specs.Image.{front}
 use Rattle.index.specs.Repeats.{slots_at_once, apart}
-use native.Mathlib.Omega.{arith}
-use borrow.Author.Tests.{not-true, not-false}
 use Rattle.index.proofs.windows_apart.Given as goal
 
 abbrev pub invariant-loop-from : goal.invariant-loop-from
