@@ -1,0 +1,22 @@
+-- An iteration puts one block's entry after those of the blocks before it.
+use mathlib.Core.Path.{refl, sym, ◌∙◌}
+use Rattle.laws.proofs.Lists.{join_none, splice_nil, splice_row}
+use Rattle.paper.specs.Geometry.{header_bytes, entry_at}
+use Rattle.paper.specs.Image.{entry_row}
+use Rattle.paper.specs.Move.{moved_owner, moved_place}
+use Rattle.rules.proofs.Written.{length_entry, entry_put}
+use native.Mathlib.Omega.{arith}
+use Rattle.laying.proofs.write_blocks.Goals as goal
+
+pub loop-i-init : goal.loop-i-init
+loop-i-init c = (omega arith, refl, rw join_none (sym (splice_nil header_bytes c.args.image.now)))
+
+pub loop-i-preserved : goal.loop-i-preserved
+loop-i-preserved c =
+    let a = c.args in
+    let b = c.loop-i.i in
+    let owner = moved_owner a.g a.taken in
+    let place = moved_place a.taken in
+    let entry = entry_put owner place b (entry_at a.g b) c.loop-i.image (omega arith) in
+    let more = splice_row 4 header_bytes b (entry_row owner place) a.image.now (length_entry _ _) (omega arith) in
+    (omega arith, c.write_entry.auto.image ∙ c.loop-i.invariant.1, cc (entry, more))
