@@ -1,12 +1,11 @@
 -- `copy_in` meets its contract: before the spot's block the image is the store's, up to there.
-use mathlib.Core.Path.{◌≡◌, refl, ◌∙◌}
+use mathlib.Core.Path.{refl, ◌∙◌}
 use lib.ListN.{length}
 use Rattle.paper.specs.Index.{block_in}
 use Rattle.rules.proofs.Right.{reads_index, reads_need}
-use Rattle.stretches.specs.Stretch.{block_from, offset_of, Walk, Turn, Fits}
-use Rattle.stretches.proofs.Walks.{spot_first, walk_start, walk_end, walk_on, reads_turn, stretch_fits, written_to, written_none, written_on, written_all}
+use Rattle.stretches.specs.Stretch.{block_from, offset_of, Turn, Fits}
+use Rattle.stretches.proofs.Walks.{spot_first, walk_start, walk_end, walk_on, reads_turn, stretch_fits, written_none, written_on, written_all}
 use native.Mathlib.Omega.{arith}
-use borrow.Author.Rules.{rules}
 use Rattle.stretches.proofs.copy_in.Goals as goal
 use Rattle.stretches.proofs.copy_in.Goals.{After-stretch_at-s, In-loop-left}
 

@@ -1,14 +1,9 @@
 -- `copy_out` meets its contract: the buffer holds as many of the book's bytes as are done.
-use Prim.Native.Nat.{◌+◌, ◌-◌, ◌≤◌}
-use native.Mathlib.Nat.{lt_of_le_of_lt}
-use mathlib.Core.Path.{◌≡◌, refl, ◌∙◌}
+use Prim.Native.Nat.{◌-◌}
+use mathlib.Core.Path.{◌≡◌}
 use lib.ListN.{length}
-use Rattle.laws.proofs.Lists.{copied_splice}
-use Rattle.paper.specs.Index.{block_in}
-use Rattle.rules.proofs.Right.{reads_index}
-use Rattle.stretches.specs.Stretch.{block_from, offset_of, Walk, Turn, Fits}
-use Rattle.stretches.proofs.Walks.{walk_start, walk_on, walk_offset, reads_turn, stretch_fits, lent_length, read_to, read_none, read_length, read_more, read_all}
-use native.Mathlib.Omega.{arith}
+use Rattle.stretches.specs.Stretch.{block_from, offset_of, Walk}
+use Rattle.stretches.proofs.Walks.{read_to}
 use Rattle.stretches.proofs.copy_out.Given as goal
 
 abbrev pub invariant-loop-left : goal.invariant-loop-left

@@ -1,19 +1,14 @@
 -- `touched_right` meets its contract: the positions passed so far are right.
 use Prim.Native.Nat.{◌<◌}
-use mathlib.Core.Bool.{true}
-use mathlib.Core.Path.{◌≡◌, ◌∙◌, sym}
-use borrow.Author.Tests.{not-true, not-false}
-use Rattle.laws.specs.Folds.{all_from}
+use mathlib.Core.Path.{◌∙◌, sym}
 use Rattle.laws.proofs.Folds.{from_none, from_more, not_all_from}
 use Rattle.paper.specs.Image.{front}
 use Rattle.paper.specs.Refusals.{right_at}
 use Rattle.rules.specs.Touched.{first_touched, end_touched}
-use Rattle.rules.proofs.Touched.{end_bound}
 use Rattle.rules.proofs.Right.{touched_walk}
-use Rattle.stretches.specs.Stretch.{offset_of, Walk}
-use Rattle.stretches.proofs.Walks.{spot_first, walk_start, walk_end, walk_in, walk_inside, walk_falls, walk_on}
+use Rattle.stretches.specs.Stretch.{offset_of}
+use Rattle.stretches.proofs.Walks.{spot_first, walk_start, walk_end, walk_in, walk_on}
 use native.Mathlib.Omega.{arith}
-use borrow.Author.Rules.{rules}
 use Rattle.stretches.proofs.touched_right.Goals as goal
 use Rattle.stretches.proofs.touched_right.Goals.{In-loop-left}
 
@@ -21,21 +16,18 @@ use Rattle.stretches.proofs.touched_right.Goals.{In-loop-left}
 touched : (c : In-loop-left)
     → let a = c.args in c.loop-left.at.position.0 < end_touched a.g (offset_of a.g a.spot) a.n
 touched c =
-    let s = c in
     let x = c.loop-left in
-    walk_in s.requires.entered.0.geometry x.invariant.0 c.loop-left-test.true
+    walk_in c.requires.entered.0.geometry x.invariant.0 c.loop-left-test.true
 
 pub loop-left-init : goal.loop-left-init
 loop-left-init c =
-    let s = c in
-    let a = s.args in
-    (walk_start a.g a.spot s.requires.within_bound.0 a.n, from_none a.spot.position.0 (right_at a.g (front a.g a.image.now) a.index.now a.r.0))
+    let a = c.args in
+    (walk_start a.g a.spot c.requires.within_bound.0 a.n, from_none a.spot.position.0 (right_at a.g (front a.g a.image.now) a.index.now a.r.0))
 
 pub returns-then-not-right_at : goal.returns-then-not-right_at
 returns-then-not-right_at c =
-    let turn = c in
-    let a = turn.args in
-    let x = turn.loop-left in
+    let a = c.args in
+    let x = c.loop-left in
     let o = offset_of a.g a.spot in
     let t = front a.g a.image.now in
     sym
@@ -45,26 +37,23 @@ returns-then-not-right_at c =
 
 pub loop-left-preserved : goal.loop-left-preserved
 loop-left-preserved c =
-    let turn = c in
-    let s = turn in
-    let a = s.args in
-    let x = turn.loop-left in
+    let a = c.args in
+    let x = c.loop-left in
     let t = c.next_block-at in
     let right = right_at a.g (front a.g a.image.now) a.index.now a.r.0 in
     let low = x.invariant.0.low in (
       rw c.in_block-left.ensures
-          (walk_on s.requires.entered.0.geometry x.invariant.0 turn.loop-left-test.true t.ensures.0 t.ensures.1),
+          (walk_on c.requires.entered.0.geometry x.invariant.0 c.loop-left-test.true t.ensures.0 t.ensures.1),
       rw t.ensures.0
-          (from_more a.spot.position.0 x.at.position.0 right (omega (arith, spot_first a.g a.spot s.requires.within_bound.0, low)) x.invariant.1
+          (from_more a.spot.position.0 x.at.position.0 right (omega (arith, spot_first a.g a.spot c.requires.within_bound.0, low)) x.invariant.1
           (sym c.right_at.ensures ∙ c.if-not-right_at.false)),
     )
 
 pub returns : goal.returns
 returns c =
-    let s = c in
-    let a = s.args in
+    let a = c.args in
     let x = c.loop-left in
     let o = offset_of a.g a.spot in
-    let e = walk_end s.requires.entered.0.geometry x.invariant.0 (omega arith) in
+    let e = walk_end c.requires.entered.0.geometry x.invariant.0 (omega arith) in
     sym (touched_walk a.g (front a.g a.image.now) a.index.now a.r.0 o a.n
-    ∙ rw (← e, spot_first a.g a.spot s.requires.within_bound.0) x.invariant.1)
+    ∙ rw (← e, spot_first a.g a.spot c.requires.within_bound.0) x.invariant.1)

@@ -1,18 +1,10 @@
 -- `touched_right` meets its contract: the positions passed so far are right.
-use Prim.Native.Nat.{◌<◌}
 use mathlib.Core.Bool.{true}
-use mathlib.Core.Path.{◌≡◌, ◌∙◌, sym}
-use borrow.Author.Tests.{not-true, not-false}
+use mathlib.Core.Path.{◌≡◌}
 use Rattle.laws.specs.Folds.{all_from}
-use Rattle.laws.proofs.Folds.{from_none, from_more, not_all_from}
 use Rattle.paper.specs.Image.{front}
 use Rattle.paper.specs.Refusals.{right_at}
-use Rattle.rules.specs.Touched.{first_touched, end_touched}
-use Rattle.rules.proofs.Touched.{end_bound}
-use Rattle.rules.proofs.Right.{touched_walk}
 use Rattle.stretches.specs.Stretch.{offset_of, Walk}
-use Rattle.stretches.proofs.Walks.{spot_first, walk_start, walk_end, walk_in, walk_inside, walk_falls, walk_on}
-use native.Mathlib.Omega.{arith}
 use Rattle.stretches.proofs.touched_right.Given as goal
 
 abbrev pub invariant-loop-left : goal.invariant-loop-left
