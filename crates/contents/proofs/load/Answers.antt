@@ -8,20 +8,18 @@ use borrow.Author.Rules.{rules}
 use Rattle.contents.proofs.load.Goals as goal
 
 pub copy_out-requires : goal.copy_out-requires
-copy_out-requires c = told_reads c.read_from-reading.ensures ?
+copy_out-requires c = told_reads c.read_from-reading.ensures c.in-From.is
 
 pub returns-in-No : goal.returns-in-No
 returns-in-No c =
-    let told = c in
-    let a = told.args in
-    told_refused told.read_from-reading.ensures ? (load a.region.0 a.edition.0 a.offset.0 a.buffer.now)
+    let a = c.args in
+    told_refused c.read_from-reading.ensures c.in-No.is (load a.region.0 a.edition.0 a.offset.0 a.buffer.now)
     (load_number a.g a.image.now a.index.now a.region.0 a.edition.0 a.offset.0 a.buffer.now)
 
 pub returns-in-From : goal.returns-in-From
 returns-in-From c =
-    let told = c in
-    let a = told.args in
-    let T = told.read_from-reading.ensures.accepted _ ? in
+    let a = c.args in
+    let T = c.read_from-reading.ensures.accepted _ c.in-From.is in
     let k = load_number a.g a.image.now a.index.now a.region.0 a.edition.0 a.offset.0 a.buffer.now ∙ T.0 in
     rw (c.copy_out.ensures, T.1.offset)
     (sym (load_done a.g (lent a.image.now a.index.now) a.region.0 a.edition.0 a.offset.0 a.buffer.now k))

@@ -19,7 +19,7 @@ use Rattle.contents.proofs.look.Goals.{After-first_stretch-s, In-From}
 -- a load of one byte is accepted, from this spot on
 from : (c : In-From) → let a = c.args in
     (read_no a.g a.image.now a.index.now a.region.0 a.edition.0 a.offset.0 1 ≡ 0) × IsSpot a.g a.offset.0 c.in-From.spot
-from c = c.read_from-reading.ensures.accepted _ ?
+from c = c.read_from-reading.ensures.accepted _ c.in-From.is
 
 reads : (c : In-From) → let a = c.args in Reads a.g a.image.now a.index.now a.region.0 a.offset.0 1
 reads c = (read_accepted _ _ _ _ _ _ 1 (from c).0).0
@@ -34,13 +34,14 @@ fits : (c : After-first_stretch-s)
 fits c =
     let a = c.args in
     let s = c.first_stretch-s in
-    look_fits a.g a.image.now a.index.now a.region.0 a.offset.0 (reads c) _ (from c).1 _ (left c) s.result s.ensures
+    let started = c.read_from-reading.ensures.accepted _ c.in-From.is in
+    let read = (read_accepted _ _ _ _ _ _ 1 started.0).0 in
+    look_fits a.g a.image.now a.index.now a.region.0 a.offset.0 read _ started.1 _ (left c) s.result s.ensures
 
 pub returns-in_default : goal.returns-in_default
 returns-in_default c =
-    let at = c in
-    let a = at.args in
-    let T = at.read_from-reading.ensures.refused _ ? in
+    let a = c.args in
+    let T = c.read_from-reading.ensures.refused _ c.in_default.is in
     sym (look_empty a.g a.region.0 a.edition.0 a.offset.0 (lent a.image.now a.index.now) (λ e. T.1 (sym T.0 ∙ e)))
 
 pub book_bytes-requires-clause-readable : goal.book_bytes-requires-clause-readable
@@ -62,8 +63,7 @@ overflow_sub-left c = let R = reads (goal.at.overflow_sub-left c).In-From in ome
 
 pub first_stretch-s-requires-clause-indexed : goal.first_stretch-s-requires-clause-indexed
 first_stretch-s-requires-clause-indexed c =
-    let at = c in
-    let a = at.args in
+    let a = c.args in
     let R = reads (goal.at.first_stretch-s-requires-clause-indexed c).In-From in
     let I = (from (goal.at.first_stretch-s-requires-clause-indexed c).In-From).1 in
     let inside = reads_region a.g a.image.now a.index.now a.region.0 a.offset.0 1 R in
@@ -72,8 +72,7 @@ first_stretch-s-requires-clause-indexed c =
 
 pub first_stretch-s-requires-clause-position_bound : goal.first_stretch-s-requires-clause-position_bound
 first_stretch-s-requires-clause-position_bound c =
-    let at = c in
-    let a = at.args in
+    let a = c.args in
     let R = reads (goal.at.first_stretch-s-requires-clause-position_bound c).In-From in
     let I = (from (goal.at.first_stretch-s-requires-clause-position_bound c).In-From).1 in
     let inside = reads_region a.g a.image.now a.index.now a.region.0 a.offset.0 1 R in
@@ -88,9 +87,7 @@ slice_bounds-result-end-2 c = let h = fits (goal.at.slice_bounds-result-end-2 c)
 
 pub returns : goal.returns
 returns c =
-    let found = c in
-    let at = found in
-    let a = at.args in
-    let s = found.first_stretch-s in
+    let a = c.args in
+    let s = c.first_stretch-s in
     look_shows a.g a.image.now a.index.now a.region.0 a.offset.0 (reads (goal.at.returns c).In-From) _ (from (goal.at.returns c).In-From).1 _ (left (goal.at.returns c).After-first_stretch-s) s.result s.ensures
     ∙ sym (look_part a.g a.region.0 a.edition.0 a.offset.0 (lent a.image.now a.index.now) (from (goal.at.returns c).In-From).0)

@@ -57,8 +57,7 @@ book_refusal-no-requires c = (entered_whole _ _ _ (entered (goal.at.book_refusal
 
 pub returns-then-no-ne0-2 : goal.returns-then-no-ne0-2
 returns-then-no-ne0-2 c =
-    let one = c in
-    let a = one.args in
+    let a = c.args in
     let no = c.book_refusal-no in
     tells_no (read_book a.g a.image.now a.index.now a.region.0 a.edition.0 a.offset.0 a.n (entered (goal.at.returns-then-no-ne0-2 c).Else-no-ne0) no.result no.ensures c.if-no-ne0-2.true) c.if-no-ne0-2.true
 
@@ -70,8 +69,7 @@ beyond-requires-clause-region_lt_entries c = ((inside (goal.at.beyond-requires-c
 
 pub returns-then-beyond : goal.returns-then-beyond
 returns-then-beyond c =
-    let two = c in
-    let a = two.args in
+    let a = c.args in
     let past = ltb-true _ _ (sym c.beyond.ensures ∙ c.if-beyond.true) in
     tells_no (read_9 a.g a.image.now a.index.now a.region.0 a.edition.0 a.offset.0 a.n (entered (goal.at.returns-then-beyond c).Else-no-ne0) (book (goal.at.returns-then-beyond c).Else-no-ne0-2).0 (book (goal.at.returns-then-beyond c).Else-no-ne0-2).1 past)
     (λ z. omega arith)
@@ -81,29 +79,23 @@ spot-spot-requires c = (entered (goal.at.spot-spot-requires c).Else-no-ne0).geom
 
 pub touched_right-requires-clause-entered : goal.touched_right-requires-clause-entered
 touched_right-requires-clause-entered c =
-    let three = c in
-    let two = three in
     let E = entered (goal.at.touched_right-requires-clause-entered c).Else-no-ne0 in
-    let a = three.args in
+    let a = c.args in
     let I = turned (goal.at.touched_right-requires-clause-entered c).After-spot-spot in
     let small = book_bytes_bound a.g (pages_of a.g (front a.g a.image.now) a.region.0) E.geometry (book (goal.at.touched_right-requires-clause-entered c).Else-no-ne0-2).1 in
     ((E, inside (goal.at.touched_right-requires-clause-entered c).Else-no-ne0-2))
 
 pub touched_right-requires-clause-within_bound : goal.touched_right-requires-clause-within_bound
 touched_right-requires-clause-within_bound c =
-    let three = c in
-    let two = three in
     let E = entered (goal.at.touched_right-requires-clause-within_bound c).Else-no-ne0 in
-    let a = three.args in
+    let a = c.args in
     let I = turned (goal.at.touched_right-requires-clause-within_bound c).After-spot-spot in
     let small = book_bytes_bound a.g (pages_of a.g (front a.g a.image.now) a.region.0) E.geometry (book (goal.at.touched_right-requires-clause-within_bound c).Else-no-ne0-2).1 in
     ((I.inside, rw I.offset (omega (arith, within (goal.at.touched_right-requires-clause-within_bound c).Else-beyond))))
 
 pub returns-then-not-touched_right : goal.returns-then-not-touched_right
 returns-then-not-touched_right c =
-    let three = c in
-    let two = three in
-    let a = three.args in
+    let a = c.args in
     let wrong = sym (touched (goal.at.returns-then-not-touched_right c).After-touched_right) ∙ c.if-not-touched_right.true in
     tells_no
     (read_7 a.g a.image.now a.index.now a.region.0 a.edition.0 a.offset.0 a.n (entered (goal.at.returns-then-not-touched_right c).Else-no-ne0) (book (goal.at.returns-then-not-touched_right c).Else-no-ne0-2).0 (book (goal.at.returns-then-not-touched_right c).Else-no-ne0-2).1 (within (goal.at.returns-then-not-touched_right c).Else-beyond) wrong)
@@ -111,9 +103,7 @@ returns-then-not-touched_right c =
 
 pub returns : goal.returns
 returns c =
-    let three = c in
-    let two = three in
-    let a = three.args in
+    let a = c.args in
     tells_from
     (read_0 a.g a.image.now a.index.now a.region.0 a.edition.0 a.offset.0 a.n (record {
       entered = entered (goal.at.returns c).Else-no-ne0;
