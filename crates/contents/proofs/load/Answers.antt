@@ -4,7 +4,6 @@ use Rattle.paper.specs.Calls.{load}
 use Rattle.paper.specs.Outcomes.{lent}
 use Rattle.rules.proofs.Lines.{load_number, load_done}
 use Rattle.contents.proofs.Told.{told_reads, told_refused}
-use borrow.Author.Rules.{rules}
 use Rattle.contents.proofs.load.Goals as goal
 
 pub copy_out-requires : goal.copy_out-requires

@@ -12,7 +12,6 @@ use Rattle.rules.proofs.Right.{reads_region, reads_index}
 use Rattle.stretches.specs.Stretch.{IsSpot}
 use Rattle.contents.proofs.Looks.{look_slot, look_fits, look_shows}
 use native.Mathlib.Omega.{arith}
-use borrow.Author.Rules.{rules}
 use Rattle.contents.proofs.look.Goals as goal
 use Rattle.contents.proofs.look.Goals.{After-first_stretch-s, In-From}
 

@@ -1,7 +1,7 @@
 -- `contents::read_from` meets its contract: a law for each return.
 use Prim.Native.Nat.{◌+◌, ◌*◌, ◌<◌, ◌≤◌}
 use mathlib.Core.Path.{◌≡◌, sym, ◌∙◌}
-use borrow.Author.Tests.{ltb-true, ltb-false, not-true, not-false}
+use borrow.Author.Tests.{ltb-true, ltb-false}
 use Rattle.paper.specs.Geometry.{most_book_pages}
 use Rattle.paper.specs.Image.{front, pages_of}
 use Rattle.paper.specs.Refusals.{touched_right}
@@ -13,7 +13,6 @@ use Rattle.stretches.specs.Stretch.{IsSpot}
 use Rattle.stretches.proofs.Walks.{spot_offset}
 use Rattle.contents.proofs.Told.{tells_no, tells_from}
 use native.Mathlib.Omega.{arith}
-use borrow.Author.Rules.{rules}
 use Rattle.contents.proofs.read_from.Goals as goal
 use Rattle.contents.proofs.read_from.Goals.{After-spot-spot, After-touched_right, Else-beyond, Else-no-ne0, Else-no-ne0-2}
 

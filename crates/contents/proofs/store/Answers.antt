@@ -4,7 +4,6 @@ use Rattle.paper.specs.Calls.{store}
 use Rattle.paper.specs.Outcomes.{lent}
 use Rattle.rules.proofs.Lines.{store_number, store_done}
 use Rattle.contents.proofs.Told.{told_reads, told_refused}
-use borrow.Author.Rules.{rules}
 use Rattle.contents.proofs.store.Goals as goal
 
 pub copy_in-requires : goal.copy_in-requires
