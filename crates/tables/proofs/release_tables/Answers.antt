@@ -27,36 +27,37 @@ both c =
 few : (c : After-need-more) → (c.need-spare.result + c.need-more.result) * c.args.g.pages ≤ 8388608
 few c = pages_bound c.args.g c.requires.readable.allowed (c.need-spare.result + c.need-more.result) (both c)
 
--- the front before the last write
-abbrev reclaimed_front : After-set_pages → List ℕ
-reclaimed_front c =
+-- the front before the last write, with n pages for region 1
+abbrev reclaimed_front : After-set_pages → ℕ → List ℕ
+reclaimed_front c n =
     let a = c.args in
     let t = front a.g a.image.now in
-    let k = c.need-spare.result in
-    set_pages a.g reclaimed ((k + c.need-more.result) * a.g.pages) (steps (taken a.g t) (reclaiming a.g t a.region.0 k) t)
+    set_pages a.g reclaimed n (steps (taken a.g t) (reclaiming a.g t a.region.0 c.need-spare.result) t)
 
-is_reclaimed : (c : After-set_pages) → c.set_pages.new.image ≡ fronted c.args.g (reclaimed_front c) c.args.image.now
-is_reclaimed c =
+abbrev Written : After-set_pages → ℕ → Type 0
+Written c n =
+    let one = c.reclaim_blocks.new.image in
+    c.set_pages.new.image ≡ fronted c.args.g (set_pages c.args.g reclaimed n (front c.args.g one)) one
+
+is_reclaimed : (c : After-set_pages) (n : ℕ) → Written c n → c.set_pages.new.image ≡ fronted c.args.g (reclaimed_front c n) c.args.image.now
+is_reclaimed c n written =
     let a = c.args in
     let t = front a.g a.image.now in
     let w = c.reclaim_blocks in
-    let v = c.set_pages in
-    let k = c.need-spare.result in
-    then a.g a.image.now w.new.image (steps (taken a.g t) (reclaiming a.g t a.region.0 k) t) c.requires.readable w.auto.image w.ensures
-    (set_pages a.g reclaimed ((k + c.need-more.result) * a.g.pages)) v.new.image v.ensures
+    then a.g a.image.now w.new.image (steps (taken a.g t) (reclaiming a.g t a.region.0 c.need-spare.result) t) c.requires.readable
+    w.auto.image w.ensures (set_pages a.g reclaimed n) c.set_pages.new.image written
 
 -- the region's edition is still what it was, so that it can be raised
-current : (c : After-set_pages) → edition_of c.args.g (front c.args.g c.set_pages.new.image) c.args.region.0 < last_edition
-current c =
+current : (c : After-set_pages) (n : ℕ) → Written c n → edition_of c.args.g (front c.args.g c.set_pages.new.image) c.args.region.0 < last_edition
+current c n written =
     let a = c.args in
     let R = c.requires.readable in
     let S = c.requires.releasable in
     let t = front a.g a.image.now in
-    let k = c.need-spare.result in
-    let kept = editions_kept a.g t (length_front a.g a.image.now (front_fits a.g a.image.now R)) R.allowed a.region.0 k
-    ((k + c.need-more.result) * a.g.pages) (taken a.g t) S.bound a.region.0 in
-    let e = front_is a.g a.image.now c.set_pages.new.image (reclaimed_front c) R (c.set_pages.auto.image ∙ c.reclaim_blocks.auto.image)
-    (is_reclaimed c) in
+    let kept = editions_kept a.g t (length_front a.g a.image.now (front_fits a.g a.image.now R)) R.allowed a.region.0 c.need-spare.result n
+    (taken a.g t) S.bound a.region.0 in
+    let e = front_is a.g a.image.now c.set_pages.new.image (reclaimed_front c n) R (c.set_pages.auto.image ∙ c.reclaim_blocks.auto.image)
+    (is_reclaimed c n written) in
     rw (e, kept) (S.rules.editions.current a.region.0 S.opened)
 
 pub overflow_add-n : goal.overflow_add-n
@@ -74,7 +75,7 @@ set_pages-requires-clause-r_lt_entries c = (
 pub set_not_open-requires-clause-r_lt_entries : goal.set_not_open-requires-clause-r_lt_entries
 set_not_open-requires-clause-r_lt_entries c = (
   open_below c.args.g (front c.args.g c.args.image.now) c.args.region.0 c.requires.releasable.opened,
-  current (goal.at.set_not_open-requires-clause-r_lt_entries c).After-set_pages,
+  current (goal.at.set_not_open-requires-clause-r_lt_entries c).After-set_pages _ c.set_pages.ensures,
 )
 
 pub returns : goal.returns
@@ -82,11 +83,12 @@ unfolding released
 returns c =
     let a = c.args in
     let t = front a.g a.image.now in
+    let n = (c.need-spare.result + c.need-more.result) * a.g.pages in
     let v = c.set_pages in
     let z = c.set_not_open in
     let two = (goal.at.returns c).After-set_pages in
-    then a.g a.image.now v.new.image (reclaimed_front two) c.requires.readable (v.auto.image ∙ c.reclaim_blocks.auto.image) (is_reclaimed two)
-    (set_not_open a.g a.region.0) z.new.image z.ensures
+    then a.g a.image.now v.new.image (reclaimed_front two n) c.requires.readable (v.auto.image ∙ c.reclaim_blocks.auto.image)
+    (is_reclaimed two n v.ensures) (set_not_open a.g a.region.0) z.new.image z.ensures
     ∙ ap₂ (λ (k m : ℕ). fronted a.g
     (set_not_open a.g a.region.0 (set_pages a.g reclaimed ((k + m) * a.g.pages) (steps (taken a.g t) (reclaiming a.g t a.region.0 k) t)))
     a.image.now)
