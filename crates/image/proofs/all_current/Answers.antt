@@ -1,9 +1,6 @@
 -- Every region below `r` is not open, or its edition is below the last.
-use Prim.Native.Nat.{◌-◌, ◌≤◌, ◌<◌}
-use mathlib.Core.Bool.{true}
+use Prim.Native.Nat.{◌<◌}
 use mathlib.Core.Path.{◌≡◌, sym, ◌∙◌}
-use borrow.Author.Tests.{not-true, not-false}
-use Rattle.laws.specs.Folds.{all_below}
 use Rattle.laws.proofs.Folds.{all_none, all_more, not_all, below_all}
 use Rattle.paper.specs.Image.{front}
 use Rattle.paper.specs.WellFormed.{current}
@@ -12,7 +9,6 @@ use Rattle.rules.proofs.Facts.{facts_current}
 use Rattle.rules.proofs.Fronts.{edition_none}
 use Rattle.image.proofs.Entries.{current_given}
 use native.Mathlib.Omega.{arith}
-use borrow.Author.Rules.{rules}
 use Rattle.image.proofs.all_current.Goals as goal
 use Rattle.image.proofs.all_current.Goals.{In-loop-r}
 
@@ -34,24 +30,20 @@ loop-r-init c = (omega arith, all_none _)
 
 pub returns-then-not-is_current : goal.returns-then-not-is_current
 returns-then-not-is_current c =
-    let head = c in
-    let a = head.args in
+    let a = c.args in
     let t = front a.g a.image.now in
     let one = sym c.is_current.ensures ∙ c.if-not-is_current.true in
-    sym (not_all a.g.entries (current a.g t) head.loop-r.r (inside (goal.at.returns-then-not-is_current c).In-loop-r) one)
+    sym (not_all a.g.entries (current a.g t) c.loop-r.r (inside (goal.at.returns-then-not-is_current c).In-loop-r) one)
 
 pub loop-r-preserved : goal.loop-r-preserved
 loop-r-preserved c =
-    let head = c in
-    let a = head.args in
-    let x = head.loop-r in
+    let a = c.args in
+    let x = c.loop-r in
     (omega arith, all_more x.r (current a.g (front a.g a.image.now)) x.invariant.1 (sym c.is_current.ensures ∙ c.if-not-is_current.false))
 
 pub returns : goal.returns
 returns c =
-    let x = c in
-    let s = x in
-    let a = s.args in
+    let a = c.args in
     let t = front a.g a.image.now in
-    let e : x.loop-r.r ≡ given a.g t = omega (arith, x.given_out-r-end.ensures) in
-    sym (current_given a.g t s.requires.high (rw e at x.loop-r.invariant.1))
+    let e : c.loop-r.r ≡ given a.g t = omega (arith, c.given_out-r-end.ensures) in
+    sym (current_given a.g t c.requires.high (rw e at c.loop-r.invariant.1))

@@ -1,13 +1,10 @@
 -- Every region below `r` is not open, or its edition is below the last.
-use Prim.Native.Nat.{◌-◌, ◌≤◌, ◌<◌}
+use Prim.Native.Nat.{◌≤◌}
 use mathlib.Core.Bool.{true}
-use mathlib.Core.Path.{◌≡◌, sym, ◌∙◌}
-use borrow.Author.Tests.{not-true, not-false}
+use mathlib.Core.Path.{◌≡◌}
 use Rattle.laws.specs.Folds.{all_below}
 use Rattle.paper.specs.Image.{front}
 use Rattle.paper.specs.WellFormed.{current}
-use Rattle.rules.specs.Given.{given}
-use native.Mathlib.Omega.{arith}
 use Rattle.image.proofs.all_current.Given as goal
 
 abbrev pub invariant-loop-r : goal.invariant-loop-r

@@ -1,12 +1,10 @@
 -- Every block below `b` names a position of an open book.
-use Prim.Native.Nat.{◌-◌, ◌≤◌}
+use Prim.Native.Nat.{◌≤◌}
 use mathlib.Core.Bool.{true}
-use mathlib.Core.Path.{◌≡◌, sym, ◌∙◌}
-use borrow.Author.Tests.{not-true, not-false}
+use mathlib.Core.Path.{◌≡◌}
 use Rattle.laws.specs.Folds.{all_below}
-use Rattle.paper.specs.Image.{front, taken}
+use Rattle.paper.specs.Image.{front}
 use Rattle.paper.specs.WellFormed.{named}
-use native.Mathlib.Omega.{arith}
 use Rattle.image.proofs.all_named.Given as goal
 
 abbrev pub invariant-loop-b : goal.invariant-loop-b

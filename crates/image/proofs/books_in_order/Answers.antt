@@ -1,18 +1,16 @@
 -- Every book below `r` fits, and `left` is what their needs leave of N.
-use Prim.Native.Nat.{◌+◌, ◌-◌, ◌≤◌, ◌<◌}
-use mathlib.Core.Bool.{true}
+use Prim.Native.Nat.{◌<◌}
 use mathlib.Core.Path.{◌≡◌, sym, ◌∙◌}
 use borrow.Author.Tests.{lt-leb, le-leb}
-use Rattle.laws.specs.Folds.{all_below, sum_below}
+use Rattle.laws.specs.Folds.{all_below}
 use Rattle.laws.proofs.Tests.{and_false_left, and_false_right}
 use Rattle.laws.proofs.Folds.{all_none, all_more, not_all, sum_none, sum_more}
 use Rattle.paper.specs.Geometry.{most_book_pages}
-use Rattle.paper.specs.Image.{front, taken, pages_of, need_of}
+use Rattle.paper.specs.Image.{front, pages_of, need_of}
 use Rattle.paper.specs.WellFormed.{fits, rule_c}
 use Rattle.rules.specs.Given.{given}
 use Rattle.rules.proofs.Sentences.{fits_read, start_given, fits_given, rule_c-short, rule_c_end}
 use native.Mathlib.Omega.{arith}
-use borrow.Author.Rules.{rules}
 use Rattle.image.proofs.books_in_order.Goals as goal
 use Rattle.image.proofs.books_in_order.Goals.{In-loop-r}
 
@@ -27,38 +25,30 @@ loop-r-init c =
 
 pub returns-then-most-pages : goal.returns-then-most-pages
 returns-then-most-pages c =
-    let p = c in
-    let x = p in
-    let a = x.args in
+    let a = c.args in
     let t = front a.g a.image.now in
     let l = inside (goal.at.returns-then-most-pages c).In-loop-r in
-    let one = fits_read a.g t x.loop-r.r l ∙ lt-leb (pages_of a.g t x.loop-r.r) (most_book_pages a.g) (omega arith) in
-    sym (and_false_left (rule_c a.g t) (not_all a.g.entries (fits a.g t) x.loop-r.r l one))
+    let one = fits_read a.g t c.loop-r.r l ∙ lt-leb (pages_of a.g t c.loop-r.r) (most_book_pages a.g) (omega arith) in
+    sym (and_false_left (rule_c a.g t) (not_all a.g.entries (fits a.g t) c.loop-r.r l one))
 
 pub returns-then-left-n : goal.returns-then-left-n
 returns-then-left-n c =
-    let p = c in
-    let x = p in
-    let a = x.args in
+    let a = c.args in
     let t = front a.g a.image.now in
-    sym (and_false_right (all_below a.g.entries (fits a.g t)) (rule_c-short a.g t x.loop-r.left x.loop-r.r (inside (goal.at.returns-then-left-n c).In-loop-r) x.loop-r.invariant.1 (omega arith)))
+    sym (and_false_right (all_below a.g.entries (fits a.g t)) (rule_c-short a.g t c.loop-r.left c.loop-r.r (inside (goal.at.returns-then-left-n c).In-loop-r) c.loop-r.invariant.1 (omega arith)))
 
 pub loop-r-preserved : goal.loop-r-preserved
 loop-r-preserved c =
-    let p = c in
-    let x = p in
-    let a = x.args in
+    let a = c.args in
     let t = front a.g a.image.now in
-    let one = fits_read a.g t x.loop-r.r (inside (goal.at.loop-r-preserved c).In-loop-r) ∙ le-leb (pages_of a.g t x.loop-r.r) (most_book_pages a.g) (omega arith) in
-    (omega arith, omega (arith, sum_more x.loop-r.r (need_of a.g t)), all_more x.loop-r.r (fits a.g t) x.loop-r.invariant.2 one)
+    let one = fits_read a.g t c.loop-r.r (inside (goal.at.loop-r-preserved c).In-loop-r) ∙ le-leb (pages_of a.g t c.loop-r.r) (most_book_pages a.g) (omega arith) in
+    (omega arith, omega (arith, sum_more c.loop-r.r (need_of a.g t)), all_more c.loop-r.r (fits a.g t) c.loop-r.invariant.2 one)
 
 pub returns : goal.returns
 returns c =
-    let x = c in
-    let s = x in
-    let a = s.args in
+    let a = c.args in
     let t = front a.g a.image.now in
-    let e : x.loop-r.r ≡ given a.g t = omega (arith, x.given_out-r-end.ensures) in
-    let sum = start_given a.g t s.requires.high a.g.entries (omega arith) in
-    let fit = fits_given a.g t s.requires.high (rw e at x.loop-r.invariant.2) in
-    rule_c_end a.g t x.loop-r.left (omega (arith, sum, rw e at x.loop-r.invariant.1)) ∙ sym (rw fit)
+    let e : c.loop-r.r ≡ given a.g t = omega (arith, c.given_out-r-end.ensures) in
+    let sum = start_given a.g t c.requires.high a.g.entries (omega arith) in
+    let fit = fits_given a.g t c.requires.high (rw e at c.loop-r.invariant.2) in
+    rule_c_end a.g t c.loop-r.left (omega (arith, sum, rw e at c.loop-r.invariant.1)) ∙ sym (rw fit)

@@ -1,6 +1,5 @@
 -- `image::counter` meets its contract.
 use mathlib.Core.Path.{◌∙◌}
-use borrow.Author.Rules.{rules}
 use Rattle.rules.proofs.Fronts.{counter_read}
 use Rattle.image.proofs.counter.Goals as goal
 

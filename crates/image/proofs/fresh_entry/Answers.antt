@@ -3,7 +3,6 @@ use mathlib.Core.Path.{sym, ◌∙◌, ap}
 use Rattle.paper.specs.Geometry.{all_ones}
 use Rattle.paper.specs.Image.{front, version_of}
 use Rattle.rules.proofs.Cells.{version3_width, version2_width}
-use borrow.Author.Rules.{rules}
 use Rattle.image.proofs.fresh_entry.Goals as goal
 
 pub returns-then-is_version_3 : goal.returns-then-is_version_3

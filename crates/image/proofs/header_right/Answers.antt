@@ -1,12 +1,11 @@
 -- `image::header_right` meets its contract.
 use mathlib.Core.Bool.{true}
 use mathlib.Core.Path.{◌≡◌, sym, ◌∙◌}
-use borrow.Author.Tests.{not-true, not-false, lt-leb, le-leb}
+use borrow.Author.Tests.{lt-leb, le-leb}
 use Rattle.paper.specs.Geometry.{fixed_regions}
 use Rattle.paper.specs.Image.{front, taken, counter, stamped}
 use Rattle.paper.specs.Refusals.{header_right}
 use native.Mathlib.Omega.{arith}
-use borrow.Author.Rules.{rules}
 use Rattle.image.proofs.header_right.Goals as goal
 use Rattle.image.proofs.header_right.Goals.{Else-not-stamped}
 
@@ -21,8 +20,7 @@ returns-then-not-stamped c = let a = c.args in simp (sym c.stamped.ensures ∙ c
 pub returns-then-g-taken : goal.returns-then-g-taken
 unfolding header_right
 returns-then-g-taken c =
-    let first = c in
-    let a = first.args in
+    let a = c.args in
     let t = front a.g a.image.now in
     simp (
       right (goal.at.returns-then-g-taken c).Else-not-stamped,
@@ -32,8 +30,7 @@ returns-then-g-taken c =
 pub returns-then-c-lt-FIXED_REGIONS : goal.returns-then-c-lt-FIXED_REGIONS
 unfolding header_right
 returns-then-c-lt-FIXED_REGIONS c =
-    let first = c in
-    let a = first.args in
+    let a = c.args in
     let t = front a.g a.image.now in
     simp (
       right (goal.at.returns-then-c-lt-FIXED_REGIONS c).Else-not-stamped,
@@ -44,9 +41,7 @@ returns-then-c-lt-FIXED_REGIONS c =
 pub returns : goal.returns
 unfolding header_right
 returns c =
-    let second = c in
-    let first = second in
-    let a = first.args in
+    let a = c.args in
     let t = front a.g a.image.now in
     simp (
       right (goal.at.returns c).Else-not-stamped,

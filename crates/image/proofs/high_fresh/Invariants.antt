@@ -1,14 +1,10 @@
 -- No region from C up to `r` was ever given out.
-use Prim.Native.Nat.{ℕ, ◌-◌, ◌≤◌}
+use Prim.Native.Nat.{◌≤◌}
 use mathlib.Core.Bool.{true}
-use mathlib.Core.Path.{◌≡◌, sym, ◌∙◌, ap, ap₂}
-use borrow.Author.Tests.{eq-eqb, ne_eqb}
+use mathlib.Core.Path.{◌≡◌}
 use Rattle.laws.specs.Folds.{all_from}
-use Rattle.laws.specs.Bytes.{num}
-use Rattle.paper.specs.Image.{front, counter}
-use lib.Dec.{eqb}
+use Rattle.paper.specs.Image.{front}
 use Rattle.image.specs.Entries.{fresh}
-use native.Mathlib.Omega.{arith}
 use Rattle.image.proofs.high_fresh.Given as goal
 
 abbrev pub invariant-loop-r : goal.invariant-loop-r

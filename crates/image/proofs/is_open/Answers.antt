@@ -3,7 +3,6 @@ use mathlib.Core.Path.{sym}
 use Rattle.rules.proofs.Facts.{is_past}
 use Rattle.rules.proofs.Fronts.{open_read}
 use native.Mathlib.Omega.{arith}
-use borrow.Author.Rules.{rules}
 use Rattle.image.proofs.is_open.Goals as goal
 
 pub returns-then-g-r : goal.returns-then-g-r

@@ -4,7 +4,6 @@ use mathlib.Core.Path.{◌∙◌, ap}
 use lib.Dec.{eqb}
 use Rattle.paper.specs.Geometry.{version3}
 use Rattle.rules.proofs.Fronts.{version_read}
-use borrow.Author.Rules.{rules}
 use Rattle.image.proofs.is_version_3.Goals as goal
 
 pub returns : goal.returns

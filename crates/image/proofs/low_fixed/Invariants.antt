@@ -1,13 +1,11 @@
 -- Every region below `r` is open, and of edition 0.
-use Prim.Native.Nat.{◌-◌, ◌≤◌}
+use Prim.Native.Nat.{◌≤◌}
 use mathlib.Core.Bool.{true}
-use mathlib.Core.Path.{◌≡◌, sym, ◌∙◌}
-use borrow.Author.Tests.{not-true, not-false}
+use mathlib.Core.Path.{◌≡◌}
 use Rattle.laws.specs.Folds.{all_below}
 use Rattle.paper.specs.Geometry.{fixed_regions}
 use Rattle.paper.specs.Image.{front}
 use Rattle.image.specs.Entries.{fixed}
-use native.Mathlib.Omega.{arith}
 use Rattle.image.proofs.low_fixed.Given as goal
 
 abbrev pub invariant-loop-r : goal.invariant-loop-r

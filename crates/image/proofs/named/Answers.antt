@@ -6,14 +6,12 @@ use Rattle.rules.proofs.Fronts.{place_fits}
 use Rattle.rules.proofs.Sentences.{named_read, named_past}
 use native.Mathlib.Nat.{mul-le-mul}
 use native.Mathlib.Omega.{arith}
-use borrow.Author.Rules.{rules}
 use Rattle.image.proofs.named.Goals as goal
 
 pub returns-then-g-r : goal.returns-then-g-r
 returns-then-g-r c =
-    let o = c in
-    let a = o.args in
-    sym (named_past a.g (front a.g a.image.now) a.b.0 (omega (arith, o.owner-r.ensures)))
+    let a = c.args in
+    sym (named_past a.g (front a.g a.image.now) a.b.0 (omega (arith, c.owner-r.ensures)))
 
 pub overflow_mul-before : goal.overflow_mul-before
 overflow_mul-before c =
@@ -25,9 +23,7 @@ overflow_mul-before c =
 
 pub returns : goal.returns
 returns c =
-    let p = c in
-    let o = p in
-    let a = o.args in
+    let a = c.args in
     let t = front a.g a.image.now in
-    rw (p.place.ensures, c.pages.ensures, o.owner-r.ensures)
-    (named_read a.g t o.requires.readable.allowed.pages_least a.b.0 (omega (arith, o.owner-r.ensures)))
+    rw (c.place.ensures, c.pages.ensures, c.owner-r.ensures)
+    (named_read a.g t c.requires.readable.allowed.pages_least a.b.0 (omega (arith, c.owner-r.ensures)))

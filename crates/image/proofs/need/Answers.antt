@@ -5,7 +5,6 @@ use Rattle.paper.specs.Image.{front, pages_in}
 use Rattle.rules.proofs.Facts.{is_open_lem, is_not_open, is_past, need_open, need_not_open}
 use Rattle.rules.proofs.Fronts.{size_open, size_not_open}
 use native.Mathlib.Omega.{arith}
-use borrow.Author.Rules.{rules}
 use Rattle.image.proofs.need.Goals as goal
 
 pub returns-then-g-r : goal.returns-then-g-r
@@ -15,16 +14,14 @@ returns-then-g-r c =
 
 pub returns-then-n : goal.returns-then-n
 returns-then-n c =
-    let n = c in
-    let a = n.args in
+    let a = c.args in
     let t = front a.g a.image.now in
-    let size = size_not_open a.g a.image.now a.r.0 (omega arith) 8 n.size_in-n.result n.size_in-n.ensures c.if-n.true in
+    let size = size_not_open a.g a.image.now a.r.0 (omega arith) 8 c.size_in-n.result c.size_in-n.ensures c.if-n.true in
     sym (need_not_open a.g t a.r.0 (is_not_open a.g t a.r.0 size))
 
 pub returns : goal.returns
 returns c =
-    let n = c in
-    let a = n.args in
+    let a = c.args in
     let t = front a.g a.image.now in
-    let size = size_open a.g a.image.now a.r.0 (omega arith) 8 n.size_in-n.result n.size_in-n.ensures c.if-n.false in
-    c.need.ensures ∙ sym (ap (need a.g) (ap pages_in size)) ∙ sym (need_open a.g t a.r.0 (is_open_lem a.g t a.r.0 (omega arith) n.size_in-n.result size))
+    let size = size_open a.g a.image.now a.r.0 (omega arith) 8 c.size_in-n.result c.size_in-n.ensures c.if-n.false in
+    c.need.ensures ∙ sym (ap (need a.g) (ap pages_in size)) ∙ sym (need_open a.g t a.r.0 (is_open_lem a.g t a.r.0 (omega arith) c.size_in-n.result size))

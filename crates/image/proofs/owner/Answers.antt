@@ -2,7 +2,6 @@
 use mathlib.Core.Path.{◌∙◌, ap}
 use Rattle.laws.specs.Bytes.{num}
 use native.Mathlib.Omega.{arith}
-use borrow.Author.Rules.{rules}
 use Rattle.rules.proofs.Fronts.{owner_read}
 use Rattle.image.proofs.owner.Goals as goal
 

@@ -1,12 +1,10 @@
 -- `image::rule_a` meets its contract.
 use mathlib.Core.Bool.{true}
 use mathlib.Core.Path.{◌≡◌, sym, ◌∙◌}
-use borrow.Author.Tests.{not-true, not-false}
 use Rattle.laws.specs.Folds.{all_from}
 use Rattle.paper.specs.Image.{front, counter}
 use Rattle.image.specs.Entries.{fresh}
 use Rattle.image.proofs.Entries.{rule_a_passes, fresh_high}
-use borrow.Author.Rules.{rules}
 use Rattle.image.proofs.rule_a.Goals as goal
 use Rattle.image.proofs.rule_a.Goals.{Else-not-high_fresh}
 
@@ -22,26 +20,22 @@ returns-then-not-low_fixed c =
 
 pub returns-then-not-high_fresh : goal.returns-then-not-high_fresh
 returns-then-not-high_fresh c =
-    let one = c in
-    let a = one.args in
+    let a = c.args in
     sym
     (rule_a_passes a.g (front a.g a.image.now)
     ∙ rw (
-      sym one.low_fixed.ensures ∙ one.if-not-low_fixed.false,
+      sym c.low_fixed.ensures ∙ c.if-not-low_fixed.false,
       sym c.high_fresh.ensures ∙ c.if-not-high_fresh.true,
     ))
 
 pub all_current-requires-clause-high : goal.all_current-requires-clause-high
 all_current-requires-clause-high c =
-    let s = c in
-    (fresh_high s.args.g (front s.args.g s.args.image.now) (high (goal.at.all_current-requires-clause-high c).Else-not-high_fresh))
+    (fresh_high c.args.g (front c.args.g c.args.image.now) (high (goal.at.all_current-requires-clause-high c).Else-not-high_fresh))
 
 pub returns : goal.returns
 returns c =
-    let two = c in
-    let one = two in
-    let a = two.args in
+    let a = c.args in
     c.all_current.ensures
     ∙ sym
     (rule_a_passes a.g (front a.g a.image.now)
-    ∙ rw (sym one.low_fixed.ensures ∙ one.if-not-low_fixed.false, high (goal.at.returns c).Else-not-high_fresh))
+    ∙ rw (sym c.low_fixed.ensures ∙ c.if-not-low_fixed.false, high (goal.at.returns c).Else-not-high_fresh))

@@ -1,13 +1,10 @@
 -- Every block from N up to `b` names no region.
-use Prim.Native.Nat.{◌-◌, ◌≤◌}
+use Prim.Native.Nat.{◌≤◌}
 use mathlib.Core.Bool.{true}
-use mathlib.Core.Path.{◌≡◌, sym, ◌∙◌}
-use borrow.Author.Tests.{not-true, not-false}
+use mathlib.Core.Path.{◌≡◌}
 use Rattle.laws.specs.Folds.{all_from}
 use Rattle.paper.specs.Geometry.{no_region}
-use Rattle.paper.specs.Image.{front, taken, names}
-use Rattle.paper.specs.WellFormed.{rule_e}
-use native.Mathlib.Omega.{arith}
+use Rattle.paper.specs.Image.{front, names}
 use Rattle.image.proofs.rule_e.Given as goal
 
 abbrev pub invariant-loop-b : goal.invariant-loop-b

@@ -3,14 +3,11 @@ use Rattle.paper.specs.Geometry.{counter_at}
 use Rattle.paper.specs.Image.{set_counter}
 use mathlib.Core.Path.{◌∙◌}
 use native.Mathlib.Omega.{arith}
-use borrow.Author.Rules.{rules}
 use Rattle.rules.proofs.Fronts.{put_front}
 use Rattle.image.proofs.set_counter.Goals as goal
 
 pub returns : goal.returns
 unfolding set_counter
 returns c =
-    let w = c in
-    let s = w in
-    let a = s.args in
-    w.write_u16.ensures ∙ put_front a.g a.image.now s.requires.readable 2 counter_at a.r.0 (omega arith)
+    let a = c.args in
+    c.write_u16.ensures ∙ put_front a.g a.image.now c.requires.readable 2 counter_at a.r.0 (omega arith)

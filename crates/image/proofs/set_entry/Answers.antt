@@ -6,19 +6,15 @@ use Rattle.paper.specs.Geometry.{entry_at}
 use Rattle.paper.specs.Image.{set_entry}
 use mathlib.Core.Path.{◌∙◌, ap}
 use native.Mathlib.Omega.{arith}
-use borrow.Author.Rules.{rules}
 use Rattle.rules.proofs.Fronts.{put_front2}
 use Rattle.image.proofs.set_entry.Goals as goal
 
 pub returns : goal.returns
 unfolding set_entry
 returns c =
-    let w = c in
-    let e = w in
-    let s = e in
-    let a = s.args in
+    let a = c.args in
     let o = entry_at a.g a.b.0 in
     c.write_u16-2.ensures
-    ∙ ap (λ (l : List ℕ). put 2 (e.entry_at-at.result + 2) a.p.0 l) w.write_u16.ensures
-    ∙ ap (λ (o : ℕ). put 2 (o + 2) a.p.0 (put 2 o a.r.0 a.image.now)) e.entry_at-at.ensures
-    ∙ put_front2 a.g a.image.now s.requires.readable 2 o a.r.0 2 (o + 2) a.p.0 (omega arith) (omega arith)
+    ∙ ap (λ (l : List ℕ). put 2 (c.entry_at-at.result + 2) a.p.0 l) c.write_u16.ensures
+    ∙ ap (λ (o : ℕ). put 2 (o + 2) a.p.0 (put 2 o a.r.0 a.image.now)) c.entry_at-at.ensures
+    ∙ put_front2 a.g a.image.now c.requires.readable 2 o a.r.0 2 (o + 2) a.p.0 (omega arith) (omega arith)

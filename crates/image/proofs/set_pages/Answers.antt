@@ -10,7 +10,6 @@ use Rattle.paper.specs.Image.{front, version_of, size_width, set_pages}
 use Rattle.rules.specs.Facts.{Readable, fronted}
 use Rattle.rules.proofs.Cells.{version3_width, version2_width, set_pages-put}
 use Rattle.rules.proofs.Fronts.{put_front}
-use borrow.Author.Rules.{rules}
 use Rattle.image.proofs.set_pages.Goals as goal
 
 in-width : (g : Geometry) (image : List ℕ) → Readable g image → (r n w : ℕ) → size_width (version_of g (front g image)) ≡ w → size_at g r + w ≤ front_bytes g
@@ -19,24 +18,16 @@ in-width g image R r n w e h = rw (set_pages-put g r (front g image) n, e) (put_
 
 pub returns-then-is_version_3 : goal.returns-then-is_version_3
 returns-then-is_version_3 c =
-    let w = c in
-    let z = w in
-    let three = z in
-    let s = three in
-    let a = s.args in
+    let a = c.args in
     let v = version_of a.g (front a.g a.image.now) in
-    w.write_u32.ensures
-    ∙ ap (λ (o : ℕ). put 4 o a.n.0 a.image.now) z.size_at.ensures
-    ∙ in-width a.g a.image.now s.requires.readable a.r.0 a.n.0 4 (version3_width v (sym three.is_version_3.ensures ∙ three.if-is_version_3.true)) (omega arith)
+    c.write_u32.ensures
+    ∙ ap (λ (o : ℕ). put 4 o a.n.0 a.image.now) c.size_at.ensures
+    ∙ in-width a.g a.image.now c.requires.readable a.r.0 a.n.0 4 (version3_width v (sym c.is_version_3.ensures ∙ c.if-is_version_3.true)) (omega arith)
 
 pub returns-else-is_version_3 : goal.returns-else-is_version_3
 returns-else-is_version_3 c =
-    let w = c in
-    let z = w in
-    let two = z in
-    let s = two in
-    let a = s.args in
+    let a = c.args in
     let v = version_of a.g (front a.g a.image.now) in
-    w.write_u64.ensures
-    ∙ ap (λ (o : ℕ). put 8 o a.n.0 a.image.now) z.size_at-else-is_version_3.ensures
-    ∙ in-width a.g a.image.now s.requires.readable a.r.0 a.n.0 8 (version2_width v (sym two.is_version_3.ensures ∙ two.if-is_version_3.false)) (omega arith)
+    c.write_u64.ensures
+    ∙ ap (λ (o : ℕ). put 8 o a.n.0 a.image.now) c.size_at-else-is_version_3.ensures
+    ∙ in-width a.g a.image.now c.requires.readable a.r.0 a.n.0 8 (version2_width v (sym c.is_version_3.ensures ∙ c.if-is_version_3.false)) (omega arith)

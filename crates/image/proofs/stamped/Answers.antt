@@ -2,14 +2,13 @@
 use mathlib.Core.Bool.{◌||◌}
 use mathlib.Core.Path.{◌≡◌, sym, ◌∙◌}
 use lib.Dec.{eqb}
-use borrow.Author.Tests.{eq-eqb, ne_eqb, not-true, not-false}
+use borrow.Author.Tests.{eq-eqb, ne_eqb}
 use Rattle.laws.specs.Bytes.{num}
 use Rattle.paper.specs.Geometry.{marker_at, blank_at, version2, version3}
 use Rattle.paper.specs.Image.{front, version_of, stamped}
 use Rattle.rules.proofs.Cells.{num_front}
 use Rattle.rules.proofs.Fronts.{version_read}
 use native.Mathlib.Omega.{arith}
-use borrow.Author.Rules.{rules}
 use Rattle.image.proofs.stamped.Goals as goal
 use Rattle.image.proofs.stamped.Goals.{After-is_version}
 
@@ -33,8 +32,7 @@ returns-then-read_u32-ne0 c =
 pub returns-then-not-is_version : goal.returns-then-not-is_version
 unfolding stamped
 returns-then-not-is_version c =
-    let v = c in
-    let a = v.args in
+    let a = c.args in
     simp (
       num_front a.g a.image.now 4 marker_at (omega arith),
       eq-eqb (num 4 a.image.now marker_at) 0 (omega arith),
@@ -44,8 +42,7 @@ returns-then-not-is_version c =
 pub returns : goal.returns
 unfolding stamped
 returns c =
-    let v = c in
-    let a = v.args in
+    let a = c.args in
     simp (
       num_front a.g a.image.now 4 marker_at (omega arith),
       num_front a.g a.image.now 4 blank_at (omega arith),

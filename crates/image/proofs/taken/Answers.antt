@@ -1,6 +1,5 @@
 -- `image::taken` meets its contract.
 use mathlib.Core.Path.{◌∙◌}
-use borrow.Author.Rules.{rules}
 use Rattle.rules.proofs.Fronts.{taken_read}
 use Rattle.image.proofs.taken.Goals as goal
 

@@ -1,16 +1,14 @@
 -- Every start from the first up to `r` is n.
-use Prim.Native.Nat.{ℕ, ◌+◌, ◌-◌, ◌≤◌}
-use mathlib.Core.Bool.{Bool, true}
+use Prim.Native.Nat.{ℕ, ◌+◌}
+use mathlib.Core.Bool.{Bool}
 use mathlib.Core.List.{List}
-use mathlib.Core.Path.{◌≡◌, sym, ◌∙◌}
+use mathlib.Core.Path.{sym, ◌∙◌}
 use lib.Dec.{eqb}
-use Rattle.laws.specs.Folds.{all_from}
 use Rattle.laws.proofs.Folds.{from_none, from_more, not_all_from}
 use Rattle.paper.specs.declared.Geometry.{Geometry}
 use Rattle.paper.specs.Index.{start_in}
 use native.Mathlib.Omega.{arith}
 use borrow.Author.Tests.{eq-eqb, ne_eqb}
-use borrow.Author.Rules.{rules}
 use Rattle.index.proofs.ends_right.Goals as goal
 
 abbrev is : Geometry → List ℕ → ℕ → ℕ → Bool
@@ -18,22 +16,17 @@ is g index n r = eqb (start_in g index r) n
 
 pub loop-r-init : goal.loop-r-init
 loop-r-init c =
-    let s = c in
-    let a = s.args in
-    (omega arith, omega (arith, s.requires.end_le_entries), from_none a.end.0 (is a.g a.index.now a.n))
+    let a = c.args in
+    (omega arith, omega (arith, c.requires.end_le_entries), from_none a.end.0 (is a.g a.index.now a.n))
 
 pub returns-then-start_in-n : goal.returns-then-start_in-n
 returns-then-start_in-n c =
-    let v = c in
-    let x = v in
-    let a = x.args in
-    let wrong = ne_eqb (start_in a.g a.index.now x.loop-r.r) a.n (λ z. c.if-start_in-n.true (v.start_in.ensures ∙ z)) in
-    sym (not_all_from a.end.0 (a.g.entries + 1) (is a.g a.index.now a.n) x.loop-r.r x.loop-r.invariant.0 (omega arith) wrong)
+    let a = c.args in
+    let wrong = ne_eqb (start_in a.g a.index.now c.loop-r.r) a.n (λ z. c.if-start_in-n.true (c.start_in.ensures ∙ z)) in
+    sym (not_all_from a.end.0 (a.g.entries + 1) (is a.g a.index.now a.n) c.loop-r.r c.loop-r.invariant.0 (omega arith) wrong)
 
 pub loop-r-preserved : goal.loop-r-preserved
 loop-r-preserved c =
-    let v = c in
-    let x = v in
-    let a = x.args in
-    let right = eq-eqb (start_in a.g a.index.now x.loop-r.r) a.n (sym v.start_in.ensures ∙ c.if-start_in-n.false) in
-    (omega arith, omega arith, from_more a.end.0 x.loop-r.r (is a.g a.index.now a.n) x.loop-r.invariant.0 x.loop-r.invariant.2 right)
+    let a = c.args in
+    let right = eq-eqb (start_in a.g a.index.now c.loop-r.r) a.n (sym c.start_in.ensures ∙ c.if-start_in-n.false) in
+    (omega arith, omega arith, from_more a.end.0 c.loop-r.r (is a.g a.index.now a.n) c.loop-r.invariant.0 c.loop-r.invariant.2 right)

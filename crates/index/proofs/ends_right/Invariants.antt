@@ -1,15 +1,10 @@
 -- Every start from the first up to `r` is n.
-use Prim.Native.Nat.{ℕ, ◌+◌, ◌-◌, ◌≤◌}
-use mathlib.Core.Bool.{Bool, true}
-use mathlib.Core.List.{List}
-use mathlib.Core.Path.{◌≡◌, sym, ◌∙◌}
+use Prim.Native.Nat.{◌-◌, ◌≤◌}
+use mathlib.Core.Bool.{true}
+use mathlib.Core.Path.{◌≡◌}
 use lib.Dec.{eqb}
 use Rattle.laws.specs.Folds.{all_from}
-use Rattle.laws.proofs.Folds.{from_none, from_more, not_all_from}
-use Rattle.paper.specs.declared.Geometry.{Geometry}
 use Rattle.paper.specs.Index.{start_in}
-use native.Mathlib.Omega.{arith}
-use borrow.Author.Tests.{eq-eqb, ne_eqb}
 use Rattle.index.proofs.ends_right.Given as goal
 
 abbrev pub invariant-loop-r : goal.invariant-loop-r

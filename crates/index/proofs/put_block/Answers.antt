@@ -1,13 +1,9 @@
 -- `index::put_block` meets its contract.
 use Prim.Native.Nat.{◌<◌}
-use mathlib.Core.Path.{◌∙◌, ap}
-use Rattle.laws.specs.Bytes.{put}
-use Rattle.paper.specs.Geometry.{slot_at}
 use Rattle.paper.specs.Image.{front, taken}
 use Rattle.rules.specs.Facts.{slot_for}
 use Rattle.index.proofs.Slots.{slot_below}
 use native.Mathlib.Omega.{arith}
-use borrow.Author.Rules.{rules}
 use Rattle.index.proofs.put_block.Goals as goal
 use Rattle.index.proofs.put_block.Goals.{Start}
 
@@ -17,10 +13,8 @@ below s = let a = s.args in slot_below a.g (front a.g a.image.now) s.requires.ta
 
 pub slot_at-requires-clause-s_lt_blocks : goal.slot_at-requires-clause-s_lt_blocks
 slot_at-requires-clause-s_lt_blocks c =
-    let s = c in
-    (omega (arith, below (goal.at.slot_at-requires-clause-s_lt_blocks c).Start, s.requires.tabled.0.bound))
+    (omega (arith, below (goal.at.slot_at-requires-clause-s_lt_blocks c).Start, c.requires.tabled.0.bound))
 
 pub write_u16-requires : goal.write_u16-requires
 write_u16-requires c =
-    let s = c in
-    omega (arith, below (goal.at.write_u16-requires c).Start, s.requires.tabled.0.bound, s.requires.tabled.1.long)
+    omega (arith, below (goal.at.write_u16-requires c).Start, c.requires.tabled.0.bound, c.requires.tabled.1.long)

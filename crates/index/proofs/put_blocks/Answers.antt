@@ -1,15 +1,10 @@
 -- The starts stand, the slots from N up are empty, and every block below `b` stands in its slot.
-use Prim.Native.Nat.{ℕ, ◌-◌, ◌≤◌, ◌<◌}
-use mathlib.Core.Path.{◌≡◌, refl, ◌∙◌}
-use lib.ListN.{length}
+use Prim.Native.Nat.{◌<◌}
+use mathlib.Core.Path.{◌∙◌}
 use Rattle.paper.specs.Image.{front, taken}
-use Rattle.paper.specs.Index.{slot_in}
-use Rattle.rules.specs.Facts.{slot_for, Indexed}
-use Rattle.index.specs.Witnessed.{Starts, Spare}
+use Rattle.rules.specs.Facts.{Indexed}
 use Rattle.index.proofs.Filling.{starts_kept, spare_kept, block_more}
 use native.Mathlib.Omega.{arith}
-use borrow.Author.Count.{below_none}
-use borrow.Author.Rules.{rules}
 use Rattle.index.proofs.put_blocks.Goals as goal
 use Rattle.index.proofs.put_blocks.Goals.{At-loop-b, In-loop-b}
 
@@ -23,15 +18,13 @@ indexed c = let p = c.requires in record { allowed = p.tabled.1.allowed; long = 
 
 pub loop-b-preserved : goal.loop-b-preserved
 loop-b-preserved c =
-    let w = c in
-    let x = w in
-    let a = x.args in
-    let p = x.requires in
+    let a = c.args in
+    let p = c.requires in
     let t = front a.g a.image.now in
     let l = inside (goal.at.loop-b-preserved c).In-loop-b in (
       omega arith,
-      w.put_block.auto.index ∙ x.loop-b.invariant.1,
-      rw w.put_block.ensures (starts_kept a.g t x.loop-b.index (indexed (goal.at.loop-b-preserved c).At-loop-b) p.rules p.tabled.0.bound x.loop-b.b l x.loop-b.invariant.2),
-      rw w.put_block.ensures (spare_kept a.g t x.loop-b.index (indexed (goal.at.loop-b-preserved c).At-loop-b) p.rules p.tabled.0.bound x.loop-b.b l x.loop-b.invariant.3),
-      rw w.put_block.ensures (block_more a.g t x.loop-b.index (indexed (goal.at.loop-b-preserved c).At-loop-b) p.rules p.tabled.0.bound x.loop-b.b l x.loop-b.invariant.4),
+      c.put_block.auto.index ∙ c.loop-b.invariant.1,
+      rw c.put_block.ensures (starts_kept a.g t c.loop-b.index (indexed (goal.at.loop-b-preserved c).At-loop-b) p.rules p.tabled.0.bound c.loop-b.b l c.loop-b.invariant.2),
+      rw c.put_block.ensures (spare_kept a.g t c.loop-b.index (indexed (goal.at.loop-b-preserved c).At-loop-b) p.rules p.tabled.0.bound c.loop-b.b l c.loop-b.invariant.3),
+      rw c.put_block.ensures (block_more a.g t c.loop-b.index (indexed (goal.at.loop-b-preserved c).At-loop-b) p.rules p.tabled.0.bound c.loop-b.b l c.loop-b.invariant.4),
     )

@@ -1,14 +1,11 @@
 -- The starts stand, the slots from N up are empty, and every block below `b` stands in its slot.
-use Prim.Native.Nat.{ℕ, ◌-◌, ◌≤◌, ◌<◌}
-use mathlib.Core.Path.{◌≡◌, refl, ◌∙◌}
+use Prim.Native.Nat.{ℕ, ◌≤◌, ◌<◌}
+use mathlib.Core.Path.{◌≡◌}
 use lib.ListN.{length}
-use Rattle.paper.specs.Image.{front, taken}
+use Rattle.paper.specs.Image.{front}
 use Rattle.paper.specs.Index.{slot_in}
-use Rattle.rules.specs.Facts.{slot_for, Indexed}
+use Rattle.rules.specs.Facts.{slot_for}
 use Rattle.index.specs.Witnessed.{Starts, Spare}
-use Rattle.index.proofs.Filling.{starts_kept, spare_kept, block_more}
-use native.Mathlib.Omega.{arith}
-use borrow.Author.Count.{below_none}
 use Rattle.index.proofs.put_blocks.Given as goal
 
 abbrev pub invariant-loop-b : goal.invariant-loop-b

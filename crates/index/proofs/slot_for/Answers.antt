@@ -5,7 +5,6 @@ use Rattle.paper.specs.Image.{front, owner}
 use Rattle.paper.specs.Index.{start_in}
 use Rattle.index.proofs.Slots.{owner_below, slot_below}
 use native.Mathlib.Omega.{arith}
-use borrow.Author.Rules.{rules}
 use Rattle.index.proofs.slot_for.Goals as goal
 use Rattle.index.proofs.slot_for.Goals.{Start}
 
@@ -24,9 +23,8 @@ overflow_add-result c =
 
 pub returns : goal.returns
 returns c =
-    let s = c in
-    let a = s.args in
+    let a = c.args in
     let r = owner a.g (front a.g a.image.now) a.b.0 in
     let l : r ≤ a.g.entries = omega (arith, below (goal.at.returns c).Start) in
-    let known = ap (start_in a.g a.index.now) c.owner.ensures ∙ s.requires.starts r l in
+    let known = ap (start_in a.g a.index.now) c.owner.ensures ∙ c.requires.starts r l in
     omega (arith, c.start_in-start.ensures ∙ known)

@@ -1,12 +1,10 @@
 -- Every slot from N up to `s` holds no block.
 use Prim.Native.Nat.{◌-◌, ◌≤◌}
 use mathlib.Core.Bool.{true}
-use mathlib.Core.Path.{◌≡◌, sym, ◌∙◌}
+use mathlib.Core.Path.{◌≡◌}
 use Rattle.laws.specs.Folds.{all_from}
 use Rattle.paper.specs.Image.{front, taken}
 use Rattle.index.specs.Witnessed.{spare_right}
-use native.Mathlib.Omega.{arith}
-use borrow.Author.Tests.{eq-eqb, ne_eqb}
 use Rattle.index.proofs.spare_right.Given as goal
 
 abbrev pub invariant-loop-s : goal.invariant-loop-s

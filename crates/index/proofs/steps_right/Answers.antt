@@ -1,28 +1,24 @@
 -- Every start up to `r` is right.
-use Prim.Native.Nat.{◌+◌, ◌-◌, ◌≤◌}
-use mathlib.Core.Bool.{true}
+use Prim.Native.Nat.{◌+◌}
 use mathlib.Core.Path.{◌≡◌, sym, ◌∙◌}
-use Rattle.laws.specs.Folds.{all_below}
 use Rattle.laws.proofs.Folds.{sum_none, all_none, all_more, all_below_lem, not_all}
 use Rattle.paper.specs.Image.{front, need_of}
 use Rattle.paper.specs.Index.{start_of, start_in}
 use Rattle.index.specs.Witnessed.{start_right}
 use Rattle.index.proofs.Witness.{step_right_lem}
 use native.Mathlib.Omega.{arith}
-use borrow.Author.Tests.{eqb-true, eq-eqb, ne_eqb, not-true, not-false}
-use borrow.Author.Rules.{rules}
+use borrow.Author.Tests.{eqb-true, eq-eqb, ne_eqb}
 use Rattle.index.proofs.steps_right.Goals as goal
 use Rattle.index.proofs.steps_right.Goals.{After-step_right}
 
 -- a step says whether the next start is right
-says : (c : After-step_right) → let x = c in let a = x.args in
-    c.step_right.result ≡ start_right a.g (front a.g a.image.now) a.index.now (x.loop-r.r + 1)
+says : (c : After-step_right) → let a = c.args in
+    c.step_right.result ≡ start_right a.g (front a.g a.image.now) a.index.now (c.loop-r.r + 1)
 says c =
-    let x = c in
-    let a = x.args in
+    let a = c.args in
     let t = front a.g a.image.now in
-    let here = eqb-true _ _ (all_below_lem (x.loop-r.r + 1) (start_right a.g t a.index.now) x.loop-r.invariant.1 x.loop-r.r (omega arith)) in
-    c.step_right.ensures ∙ step_right_lem a.g t a.index.now x.loop-r.r here
+    let here = eqb-true _ _ (all_below_lem (c.loop-r.r + 1) (start_right a.g t a.index.now) c.loop-r.invariant.1 c.loop-r.r (omega arith)) in
+    c.step_right.ensures ∙ step_right_lem a.g t a.index.now c.loop-r.r here
 
 pub returns-then-start_in-ne0 : goal.returns-then-start_in-ne0
 returns-then-start_in-ne0 c =
@@ -41,14 +37,12 @@ loop-r-init c =
 
 pub returns-then-not-step_right : goal.returns-then-not-step_right
 returns-then-not-step_right c =
-    let x = c in
-    let a = x.args in
+    let a = c.args in
     let wrong = sym (says (goal.at.returns-then-not-step_right c).After-step_right) ∙ c.if-not-step_right.true in
-    sym (not_all (a.end.0 + 1) (start_right a.g (front a.g a.image.now) a.index.now) (x.loop-r.r + 1) (omega arith) wrong)
+    sym (not_all (a.end.0 + 1) (start_right a.g (front a.g a.image.now) a.index.now) (c.loop-r.r + 1) (omega arith) wrong)
 
 pub loop-r-preserved : goal.loop-r-preserved
 loop-r-preserved c =
-    let x = c in
-    let a = x.args in
+    let a = c.args in
     let right = sym (says (goal.at.loop-r-preserved c).After-step_right) ∙ c.if-not-step_right.false in
-    (omega arith, all_more (x.loop-r.r + 1) (start_right a.g (front a.g a.image.now) a.index.now) x.loop-r.invariant.1 right)
+    (omega arith, all_more (c.loop-r.r + 1) (start_right a.g (front a.g a.image.now) a.index.now) c.loop-r.invariant.1 right)

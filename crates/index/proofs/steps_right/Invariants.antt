@@ -1,13 +1,10 @@
 -- Every start up to `r` is right.
-use Prim.Native.Nat.{◌+◌, ◌-◌, ◌≤◌}
+use Prim.Native.Nat.{◌+◌, ◌≤◌}
 use mathlib.Core.Bool.{true}
-use mathlib.Core.Path.{◌≡◌, sym, ◌∙◌}
+use mathlib.Core.Path.{◌≡◌}
 use Rattle.laws.specs.Folds.{all_below}
-use Rattle.paper.specs.Image.{front, need_of}
-use Rattle.paper.specs.Index.{start_of, start_in}
+use Rattle.paper.specs.Image.{front}
 use Rattle.index.specs.Witnessed.{start_right}
-use native.Mathlib.Omega.{arith}
-use borrow.Author.Tests.{eqb-true, eq-eqb, ne_eqb, not-true, not-false}
 use Rattle.index.proofs.steps_right.Given as goal
 
 abbrev pub invariant-loop-r : goal.invariant-loop-r

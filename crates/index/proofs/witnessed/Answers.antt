@@ -4,7 +4,6 @@ use mathlib.Core.Path.{◌≡◌, sym, ◌∙◌}
 use Rattle.paper.specs.Image.{front}
 use Rattle.index.specs.Witnessed.{starts_right, witnessed}
 use Rattle.index.proofs.Witness.{starts_facts}
-use borrow.Author.Tests.{not-true, not-false}
 use Rattle.index.proofs.witnessed.Goals as goal
 use Rattle.index.proofs.witnessed.Goals.{Else-not-starts_right}
 

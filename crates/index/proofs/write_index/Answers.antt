@@ -8,11 +8,7 @@ use Rattle.paper.specs.Geometry.{no_block}
 use Rattle.paper.specs.Image.{front}
 use Rattle.rules.specs.Facts.{Indexed}
 use Rattle.rules.proofs.Index.{index_known}
-use Rattle.index.specs.Slotted.{Tabled}
-use Rattle.index.proofs.Slots.{rules_slotted}
 use Rattle.index.proofs.Filling.{starts_emptied, spare_emptied}
-use native.Mathlib.Omega.{arith}
-use borrow.Author.Rules.{rules}
 use Rattle.index.proofs.write_index.Goals as goal
 use Rattle.index.proofs.write_index.Goals.{After-write_starts, Start}
 

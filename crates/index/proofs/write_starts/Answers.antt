@@ -2,19 +2,17 @@
 use Prim.Native.Nat.{ℕ, ◌+◌, ◌-◌, ◌≤◌, ◌<◌}
 use mathlib.Core.Path.{◌≡◌, refl, sym, ap, ◌∙◌}
 use mathlib.Core.List.{List}
-use lib.ListN.{length}
 use Rattle.laws.specs.Folds.{join_below}
 use Rattle.laws.specs.Bytes.{le, splice, put}
 use Rattle.laws.proofs.Folds.{sum_none, sum_more}
 use Rattle.paper.specs.Image.{front, need_of}
-use Rattle.paper.specs.Index.{start_of, start_in}
+use Rattle.paper.specs.Index.{start_of}
 use Rattle.rules.specs.Facts.{Indexed}
 use Rattle.rules.proofs.Sentences.{start_given}
 use Rattle.index.proofs.Slots.{need_inside, start_below}
 use Rattle.index.proofs.Filling.{start_more, starts_filled}
 use native.Mathlib.Omega.{arith}
 use borrow.Author.Count.{below_none}
-use borrow.Author.Rules.{rules}
 use Rattle.index.proofs.write_starts.Goals as goal
 use Rattle.index.proofs.write_starts.Goals.{At-loop-r, In-loop-r}
 
@@ -23,13 +21,12 @@ indexed : (x : At-loop-r) → Indexed x.args.g x.loop-r.index
 indexed x = let p = x.requires in record { allowed = p.tabled.1.allowed; long = x.loop-r.invariant.1 ∙ p.tabled.1.long }
 
 -- the start and the region's need fit 2 bytes
-fits : (c : In-loop-r) → let x = c in let a = x.args in
-    x.loop-r.start + need_of a.g (front a.g a.image.now) x.loop-r.r < 65536
+fits : (c : In-loop-r) → let a = c.args in
+    c.loop-r.start + need_of a.g (front a.g a.image.now) c.loop-r.r < 65536
 fits c =
-    let x = c in
-    let a = x.args in
-    let p = x.requires in
-    let inside = need_inside a.g (front a.g a.image.now) p.tabled.0.slotted x.loop-r.r (omega (arith, x.given_out-end.ensures)) in
+    let a = c.args in
+    let p = c.requires in
+    let inside = need_inside a.g (front a.g a.image.now) p.tabled.0.slotted c.loop-r.r (omega (arith, c.given_out-end.ensures)) in
     omega (arith, inside, p.tabled.0.bound, p.tabled.1.allowed.blocks_most)
 
 -- so does the last
@@ -50,21 +47,18 @@ overflow_cast-start c = omega (arith, fits (goal.at.overflow_cast-start c).In-lo
 
 pub overflow_add-start : goal.overflow_add-start
 overflow_add-start c =
-    let s = c in
     omega (arith, fits (goal.at.overflow_add-start c).In-loop-r)
 
 pub loop-r-preserved : goal.loop-r-preserved
 loop-r-preserved c =
-    let w = c in
-    let s = w in
-    let a = s.args in
-    let x = s.loop-r in
+    let a = c.args in
+    let x = c.loop-r in
     let t = front a.g a.image.now in
-    let l : x.r ≤ a.g.entries = omega (arith, s.given_out-end.ensures) in
+    let l : x.r ≤ a.g.entries = omega (arith, c.given_out-end.ensures) in
     let I = indexed (goal.at.loop-r-preserved c).At-loop-r in
-    let e = w.write_u16.ensures ∙ ap (λ o. put 2 o x.start x.index) s.start_at.ensures in (
+    let e = c.write_u16.ensures ∙ ap (λ o. put 2 o x.start x.index) c.start_at.ensures in (
       omega arith,
-      w.write_u16.auto.s ∙ x.invariant.1,
+      c.write_u16.auto.s ∙ x.invariant.1,
       omega (arith, sum_more x.r (need_of a.g t)),
       rw e (start_more a.g t x.index I x.r x.start l (omega (arith, fits (goal.at.loop-r-preserved c).In-loop-r)) x.invariant.2 x.invariant.3),
     )
@@ -74,16 +68,13 @@ overflow_cast-start-2 c = omega (arith, last_fits (goal.at.overflow_cast-start-2
 
 pub returns : goal.returns
 returns c =
-    let f = c in
-    let n = f in
-    let x = n in
-    let v = x.given_out-end in
-    let a = x.args in
+    let v = c.given_out-end in
+    let a = c.args in
     let t = front a.g a.image.now in
-    let all : x.loop-r.r ≡ v.result.0 = omega (arith, x.loop-r.invariant.0, n.loop-r-test.false) in
-    let filled : ℕ → List ℕ = λ o. splice o (join_below (a.g.entries + 1 - v.result.0) (λ _. le 2 x.loop-r.start)) x.loop-r.index in
-    rw (f.fill_u16.ensures ∙ ap filled n.start_at-2.ensures)
-    (starts_filled a.g t x.loop-r.index (indexed (goal.at.returns c).At-loop-r) v.result.0 x.loop-r.start (omega (arith, v.ensures)) (last_fits (goal.at.returns c).At-loop-r)
-    (x.loop-r.invariant.2 ∙ ap (start_of a.g t) all)
-    (λ q h. start_given a.g t x.requires.high q (omega (arith, v.ensures)) ∙ sym (ap (start_of a.g t) v.ensures))
-    (λ q h. x.loop-r.invariant.3 q (omega arith)))
+    let all : c.loop-r.r ≡ v.result.0 = omega (arith, c.loop-r.invariant.0, c.loop-r-test.false) in
+    let filled : ℕ → List ℕ = λ o. splice o (join_below (a.g.entries + 1 - v.result.0) (λ _. le 2 c.loop-r.start)) c.loop-r.index in
+    rw (c.fill_u16.ensures ∙ ap filled c.start_at-2.ensures)
+    (starts_filled a.g t c.loop-r.index (indexed (goal.at.returns c).At-loop-r) v.result.0 c.loop-r.start (omega (arith, v.ensures)) (last_fits (goal.at.returns c).At-loop-r)
+    (c.loop-r.invariant.2 ∙ ap (start_of a.g t) all)
+    (λ q h. start_given a.g t c.requires.high q (omega (arith, v.ensures)) ∙ sym (ap (start_of a.g t) v.ensures))
+    (λ q h. c.loop-r.invariant.3 q (omega arith)))

@@ -1,15 +1,9 @@
 -- Every start before `r` stands, and `start` is the next.
-use Prim.Native.Nat.{ℕ, ◌+◌, ◌-◌, ◌≤◌, ◌<◌}
-use mathlib.Core.Path.{◌≡◌, refl, sym, ap, ◌∙◌}
-use mathlib.Core.List.{List}
+use Prim.Native.Nat.{ℕ, ◌≤◌, ◌<◌}
+use mathlib.Core.Path.{◌≡◌}
 use lib.ListN.{length}
-use Rattle.laws.specs.Folds.{join_below}
-use Rattle.laws.specs.Bytes.{le, splice, put}
-use Rattle.paper.specs.Image.{front, need_of}
+use Rattle.paper.specs.Image.{front}
 use Rattle.paper.specs.Index.{start_of, start_in}
-use Rattle.rules.specs.Facts.{Indexed}
-use native.Mathlib.Omega.{arith}
-use borrow.Author.Count.{below_none}
 use Rattle.index.proofs.write_starts.Given as goal
 
 abbrev pub invariant-loop-r : goal.invariant-loop-r

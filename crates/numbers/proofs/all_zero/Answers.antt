@@ -1,15 +1,13 @@
 -- The largest of the bytes below `i` is zero exactly where each of them is.
-use Prim.Native.Nat.{ℕ, ◌-◌, ◌≤◌, max}
+use Prim.Native.Nat.{ℕ, max}
 use mathlib.Core.Bool.{Bool, ◌&&◌}
 use mathlib.Core.Path.{◌≡◌, sym}
 use native.Mathlib.Decide.{ℕ_discrete}
 use borrow.Author.Tests.{ne_eqb}
 use lib.Dec.{eqb}
-use lib.ListN.{get_or, length}
-use Rattle.laws.specs.Folds.{all_below}
+use lib.ListN.{get_or}
 use Rattle.laws.proofs.Folds.{all_none, all_next}
 use native.Mathlib.Omega.{arith}
-use borrow.Author.Rules.{rules}
 use Rattle.numbers.proofs.all_zero.Goals as goal
 
 -- the larger of two is zero where both are
@@ -26,7 +24,6 @@ loop-i-init c = (omega arith, sym (all_none _))
 
 pub loop-i-preserved : goal.loop-i-preserved
 loop-i-preserved c =
-    let x = c in
-    let a = x.args in
+    let a = c.args in
     let zero-byte : ℕ → Bool = λ k. eqb (get_or a.part.now k 0) 0 in
-    (omega arith, rw (c.larger-largest.ensures, all_next x.loop-i.i zero-byte, ← x.loop-i.invariant.1) (max-zero x.loop-i.largest (get_or a.part.now x.loop-i.i 0)))
+    (omega arith, rw (c.larger-largest.ensures, all_next c.loop-i.i zero-byte, ← c.loop-i.invariant.1) (max-zero c.loop-i.largest (get_or a.part.now c.loop-i.i 0)))

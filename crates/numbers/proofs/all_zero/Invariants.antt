@@ -1,13 +1,9 @@
 -- The largest of the bytes below `i` is zero exactly where each of them is.
-use Prim.Native.Nat.{ℕ, ◌-◌, ◌≤◌, max}
-use mathlib.Core.Bool.{Bool, ◌&&◌}
-use mathlib.Core.Path.{◌≡◌, sym}
-use native.Mathlib.Decide.{ℕ_discrete}
-use borrow.Author.Tests.{ne_eqb}
+use Prim.Native.Nat.{◌≤◌}
+use mathlib.Core.Path.{◌≡◌}
 use lib.Dec.{eqb}
 use lib.ListN.{get_or, length}
 use Rattle.laws.specs.Folds.{all_below}
-use native.Mathlib.Omega.{arith}
 use Rattle.numbers.proofs.all_zero.Given as goal
 
 abbrev pub invariant-loop-i : goal.invariant-loop-i

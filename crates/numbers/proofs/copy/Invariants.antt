@@ -1,10 +1,8 @@
 -- `to` is `i` bytes of `from`, then what it held.
-use Prim.Native.Nat.{ℕ, ◌-◌, ◌≤◌}
-use mathlib.Core.Path.{◌≡◌, ap, ◌∙◌}
-use mathlib.Core.List.{List, ◌++◌, append-nil}
-use lib.ListN.{length, get_or, take, drop, set}
-use lib.Seq.{drop-length, take-length}
-use native.Mathlib.Omega.{arith}
+use Prim.Native.Nat.{◌≤◌}
+use mathlib.Core.Path.{◌≡◌}
+use mathlib.Core.List.{◌++◌}
+use lib.ListN.{length, take, drop}
 use Rattle.numbers.proofs.copy.Given as goal
 
 abbrev pub invariant-loop-i : goal.invariant-loop-i

@@ -1,7 +1,6 @@
 -- What comes back of the lent part is a splice.
 use Rattle.laws.proofs.Lists.{copied_splice}
 use native.Mathlib.Omega.{arith}
-use borrow.Author.Rules.{rules}
 use Rattle.numbers.proofs.copy_part.Goals as goal
 
 pub returns : goal.returns

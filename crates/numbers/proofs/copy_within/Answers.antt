@@ -1,8 +1,5 @@
 -- `s` has `i` of the bytes in their place, and is else as it was.
-use Prim.Native.Nat.{◌-◌, ◌≤◌}
-use mathlib.Core.Path.{◌≡◌, refl, sym}
-use lib.ListN.{length, take, drop}
-use Rattle.laws.specs.Bytes.{splice}
+use mathlib.Core.Path.{refl, sym}
 use Rattle.laws.proofs.Lists.{splice_nil, copy_turn}
 use native.Mathlib.Omega.{arith}
 use borrow.Author.Rules.{rules}
@@ -13,7 +10,6 @@ loop-i-init c = (omega arith, refl, sym (splice_nil c.args.to c.args.s.now))
 
 pub loop-i-preserved : goal.loop-i-preserved
 loop-i-preserved c =
-    let x = c in
-    let a = x.args in
-    let copied = copy_turn a.from a.to x.loop-i.i a.s.now (omega arith) (omega arith) in
-    (omega arith, search rules, rw x.loop-i.invariant.2 copied)
+    let a = c.args in
+    let copied = copy_turn a.from a.to c.loop-i.i a.s.now (omega arith) (omega arith) in
+    (omega arith, search rules, rw c.loop-i.invariant.2 copied)

@@ -1,9 +1,8 @@
 -- `s` has `i` of the bytes in their place, and is else as it was.
-use Prim.Native.Nat.{◌-◌, ◌≤◌}
-use mathlib.Core.Path.{◌≡◌, refl, sym}
+use Prim.Native.Nat.{◌≤◌}
+use mathlib.Core.Path.{◌≡◌}
 use lib.ListN.{length, take, drop}
 use Rattle.laws.specs.Bytes.{splice}
-use native.Mathlib.Omega.{arith}
 use Rattle.numbers.proofs.copy_within.Given as goal
 
 abbrev pub invariant-loop-i : goal.invariant-loop-i

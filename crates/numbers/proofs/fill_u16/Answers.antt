@@ -1,13 +1,9 @@
 -- `i` numbers stand from `at` on.
-use Prim.Native.Nat.{◌-◌, ◌≤◌}
-use mathlib.Core.Path.{◌≡◌, refl, sym, ap, ◌∙◌}
-use lib.ListN.{length}
-use Rattle.laws.specs.Folds.{join_below}
-use Rattle.laws.specs.Bytes.{le, splice, put}
+use mathlib.Core.Path.{refl, sym, ap, ◌∙◌}
+use Rattle.laws.specs.Bytes.{le, put}
 use Rattle.laws.proofs.Lists.{join_none, splice_nil, splice_row}
 use Rattle.laws.proofs.Bytes.{length-le}
 use native.Mathlib.Omega.{arith}
-use borrow.Author.Rules.{rules}
 use Rattle.numbers.proofs.fill_u16.Goals as goal
 
 pub loop-i-init : goal.loop-i-init

@@ -1,10 +1,9 @@
 -- `i` numbers stand from `at` on.
-use Prim.Native.Nat.{◌-◌, ◌≤◌}
-use mathlib.Core.Path.{◌≡◌, refl, sym, ap, ◌∙◌}
+use Prim.Native.Nat.{◌≤◌}
+use mathlib.Core.Path.{◌≡◌}
 use lib.ListN.{length}
 use Rattle.laws.specs.Folds.{join_below}
-use Rattle.laws.specs.Bytes.{le, splice, put}
-use native.Mathlib.Omega.{arith}
+use Rattle.laws.specs.Bytes.{le, splice}
 use Rattle.numbers.proofs.fill_u16.Given as goal
 
 abbrev pub invariant-loop-i : goal.invariant-loop-i

@@ -1,7 +1,6 @@
 -- Two numbers of two bytes are one of four: `num_join`.
 use Rattle.laws.proofs.Bytes.{num_join}
 use native.Mathlib.Omega.{arith}
-use borrow.Author.Rules.{rules}
 use Rattle.numbers.proofs.read_u32.Goals as goal
 
 pub returns : goal.returns

@@ -1,7 +1,6 @@
 -- Two numbers of four bytes are one of eight: `num_join`.
 use Rattle.laws.proofs.Bytes.{num_join}
 use native.Mathlib.Omega.{arith}
-use borrow.Author.Rules.{rules}
 use Rattle.numbers.proofs.read_u64.Goals as goal
 
 pub returns : goal.returns

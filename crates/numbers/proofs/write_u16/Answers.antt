@@ -5,7 +5,6 @@ use lib.ListN.{set, length-set}
 use Rattle.laws.specs.Bytes.{put}
 use Rattle.laws.proofs.Bytes.{set_put, put_join}
 use native.Mathlib.Omega.{arith}
-use borrow.Author.Rules.{rules}
 use Rattle.numbers.proofs.write_u16.Goals as goal
 
 pub returns : goal.returns

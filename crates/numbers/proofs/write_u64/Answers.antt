@@ -1,7 +1,6 @@
 -- Two numbers of four bytes written are one of eight: `put_join`.
 use Rattle.laws.proofs.Bytes.{put_join}
 use native.Mathlib.Omega.{arith}
-use borrow.Author.Rules.{rules}
 use Rattle.numbers.proofs.write_u64.Goals as goal
 
 pub returns : goal.returns

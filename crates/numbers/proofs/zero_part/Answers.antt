@@ -6,7 +6,6 @@ use lib.ListN.{replicate}
 use Rattle.laws.specs.Bytes.{splice}
 use Rattle.laws.proofs.Lists.{put-splice, length_part}
 use native.Mathlib.Omega.{arith}
-use borrow.Author.Rules.{rules}
 use Rattle.numbers.proofs.zero_part.Goals as goal
 
 pub returns : goal.returns

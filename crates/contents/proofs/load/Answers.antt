@@ -1,0 +1,25 @@
+-- `contents::load` meets its contract: refused, or done.
+use mathlib.Core.Path.{sym, ◌∙◌}
+use Rattle.paper.specs.Calls.{load}
+use Rattle.paper.specs.Outcomes.{lent}
+use Rattle.rules.proofs.Lines.{load_number, load_done}
+use Rattle.contents.proofs.Told.{told_reads, told_refused}
+use borrow.Author.Rules.{rules}
+use Rattle.contents.proofs.load.Goals as goal
+
+pub copy_out-requires : goal.copy_out-requires
+copy_out-requires c = told_reads c.read_from-reading.ensures c.in-From.is
+
+pub returns-in-No : goal.returns-in-No
+returns-in-No c =
+    let a = c.args in
+    told_refused c.read_from-reading.ensures c.in-No.is (load a.region.0 a.edition.0 a.offset.0 a.buffer.now)
+    (load_number a.g a.image.now a.index.now a.region.0 a.edition.0 a.offset.0 a.buffer.now)
+
+pub returns-in-From : goal.returns-in-From
+returns-in-From c =
+    let a = c.args in
+    let T = c.read_from-reading.ensures.accepted _ c.in-From.is in
+    let k = load_number a.g a.image.now a.index.now a.region.0 a.edition.0 a.offset.0 a.buffer.now ∙ T.0 in
+    rw (c.copy_out.ensures, T.1.offset)
+    (sym (load_done a.g (lent a.image.now a.index.now) a.region.0 a.edition.0 a.offset.0 a.buffer.now k))

@@ -1,0 +1,10 @@
+-- `stretch_at` meets its contract.
+use Rattle.paper.proofs.Arithmetic.{block_bound, data_bound}
+use native.Mathlib.Omega.{arith}
+use Rattle.stretches.proofs.stretch_at.Goals as goal
+
+pub overflow_add-at : goal.overflow_add-at
+overflow_add-at c =
+    let A = c.requires.0.allowed in
+    let d = data_bound c.args.g c.slot_in-b.result.0 A (omega arith) in
+    omega (arith, block_bound c.args.g A)
