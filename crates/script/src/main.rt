@@ -167,12 +167,12 @@ fn valued(a: Answer) -> Answer
 }
 
 // Reads until the record is full or the input ends, and tells how many bytes it got.
-fn read_record(input: &mut Stdin, record: &mut [u8]) -> io::Result<usize>
-    ensures { IfOk result (λ n. n ≤ length record.new) }
+fn read_record(input: &mut Stdin, bytes: &mut [u8]) -> io::Result<usize>
+    ensures { IfOk result (λ n. n ≤ length bytes.new) }
 {
     let mut got = 0;
-    while got < record.len() {
-        let n = input.read(&mut record[got..])?;
+    while got < bytes.len() {
+        let n = input.read(&mut bytes[got..])?;
         if n == 0 {
             return Ok(got);
         }
