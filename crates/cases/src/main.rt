@@ -2,8 +2,8 @@
 // The table is walked row by row, and a case holds where each of its rows does.
 #![tactic(auto)]
 
-use libc::STDOUT_FILENO;
 use paper::{Answer, Edition, Geometry, Offset, Pages, Region, Version};
+use std::io;
 
 const G: Geometry = Geometry::BENCH;
 
@@ -560,24 +560,28 @@ fn holds(image: &mut [u8], index: &mut [u8], row: [u64; 7]) -> bool {
 
 // ---- the walk
 
-fn report(number: u64, right: bool) {
-    io::write_all(STDOUT_FILENO, b"case ");
-    io::print_decimal(STDOUT_FILENO, number);
+fn report(rt: &HostRuntime, number: u64, right: bool) -> io::Result<()> {
     if right {
-        io::write_all(STDOUT_FILENO, b" holds\n");
+        println!(rt; "case {number} holds")
     } else {
-        io::write_all(STDOUT_FILENO, b" DOES NOT HOLD\n");
+        println!(rt; "case {number} DOES NOT HOLD")
     }
 }
 
 // A case's line is printed when its last row is done.
-fn walk(image: &mut [u8], index: &mut [u8], first: u64, rows: &[[u64; 7]]) {
+fn walk(
+    rt: &HostRuntime,
+    image: &mut [u8],
+    index: &mut [u8],
+    first: u64,
+    rows: &[[u64; 7]],
+) -> io::Result<()> {
     let mut case = first;
     let mut right = true;
     for i in 0..rows.len() {
         let row = rows[i];
         if row[CASE] != case {
-            report(case, right);
+            report(rt, case, right)?;
             case = row[CASE];
             right = true;
         }
@@ -585,72 +589,72 @@ fn walk(image: &mut [u8], index: &mut [u8], first: u64, rows: &[[u64; 7]]) {
             right = false;
         }
     }
-    report(case, right);
+    report(rt, case, right)
 }
 
-fn cases_1_to_3(image: &mut [u8], index: &mut [u8]) {
-    walk(image, index, 1, &CASES_1_TO_3);
+fn cases_1_to_3(rt: &HostRuntime, image: &mut [u8], index: &mut [u8]) -> io::Result<()> {
+    walk(rt, image, index, 1, &CASES_1_TO_3)
 }
 
-fn cases_4_to_6(image: &mut [u8], index: &mut [u8]) {
-    walk(image, index, 4, &CASES_4_TO_6);
+fn cases_4_to_6(rt: &HostRuntime, image: &mut [u8], index: &mut [u8]) -> io::Result<()> {
+    walk(rt, image, index, 4, &CASES_4_TO_6)
 }
 
-fn cases_7_to_10(image: &mut [u8], index: &mut [u8]) {
-    walk(image, index, 7, &CASES_7_TO_10);
+fn cases_7_to_10(rt: &HostRuntime, image: &mut [u8], index: &mut [u8]) -> io::Result<()> {
+    walk(rt, image, index, 7, &CASES_7_TO_10)
 }
 
-fn cases_11_to_12(image: &mut [u8], index: &mut [u8]) {
-    walk(image, index, 11, &CASES_11_TO_12);
+fn cases_11_to_12(rt: &HostRuntime, image: &mut [u8], index: &mut [u8]) -> io::Result<()> {
+    walk(rt, image, index, 11, &CASES_11_TO_12)
 }
 
-fn case_13(image: &mut [u8], index: &mut [u8]) {
-    walk(image, index, 13, &CASE_13);
+fn case_13(rt: &HostRuntime, image: &mut [u8], index: &mut [u8]) -> io::Result<()> {
+    walk(rt, image, index, 13, &CASE_13)
 }
 
-fn case_14() {
+fn case_14(rt: &HostRuntime) -> io::Result<()> {
     let mut image = [0u8; 2048];
     let mut index = [0u8; 82];
-    walk(&mut image, &mut index, 14, &CASE_14);
+    walk(rt, &mut image, &mut index, 14, &CASE_14)
 }
 
-fn cases_15_to_16(image: &mut [u8], index: &mut [u8]) {
-    walk(image, index, 15, &CASES_15_TO_16);
+fn cases_15_to_16(rt: &HostRuntime, image: &mut [u8], index: &mut [u8]) -> io::Result<()> {
+    walk(rt, image, index, 15, &CASES_15_TO_16)
 }
 
-fn case_17(image: &mut [u8], index: &mut [u8]) {
-    walk(image, index, 17, &CASE_17);
+fn case_17(rt: &HostRuntime, image: &mut [u8], index: &mut [u8]) -> io::Result<()> {
+    walk(rt, image, index, 17, &CASE_17)
 }
 
-fn case_18(image: &mut [u8], index: &mut [u8]) {
-    walk(image, index, 18, &CASE_18);
+fn case_18(rt: &HostRuntime, image: &mut [u8], index: &mut [u8]) -> io::Result<()> {
+    walk(rt, image, index, 18, &CASE_18)
 }
 
-fn case_19(image: &mut [u8], index: &mut [u8]) {
-    walk(image, index, 19, &CASE_19);
+fn case_19(rt: &HostRuntime, image: &mut [u8], index: &mut [u8]) -> io::Result<()> {
+    walk(rt, image, index, 19, &CASE_19)
 }
 
-fn case_20(image: &mut [u8], index: &mut [u8]) {
-    walk(image, index, 20, &CASE_20);
+fn case_20(rt: &HostRuntime, image: &mut [u8], index: &mut [u8]) -> io::Result<()> {
+    walk(rt, image, index, 20, &CASE_20)
 }
 
-fn case_21(image: &mut [u8], index: &mut [u8]) {
-    walk(image, index, 21, &CASE_21);
+fn case_21(rt: &HostRuntime, image: &mut [u8], index: &mut [u8]) -> io::Result<()> {
+    walk(rt, image, index, 21, &CASE_21)
 }
 
-fn main() {
+fn main(rt: HostRuntime) -> io::Result<()> {
     let mut image = [0u8; 8704];
     let mut index = [0u8; 82];
-    cases_1_to_3(&mut image, &mut index);
-    cases_4_to_6(&mut image, &mut index);
-    cases_7_to_10(&mut image, &mut index);
-    cases_11_to_12(&mut image, &mut index);
-    case_13(&mut image, &mut index);
-    case_14();
-    cases_15_to_16(&mut image, &mut index);
-    case_17(&mut image, &mut index);
-    case_18(&mut image, &mut index);
-    case_19(&mut image, &mut index);
-    case_20(&mut image, &mut index);
-    case_21(&mut image, &mut index);
+    cases_1_to_3(&rt, &mut image, &mut index)?;
+    cases_4_to_6(&rt, &mut image, &mut index)?;
+    cases_7_to_10(&rt, &mut image, &mut index)?;
+    cases_11_to_12(&rt, &mut image, &mut index)?;
+    case_13(&rt, &mut image, &mut index)?;
+    case_14(&rt)?;
+    cases_15_to_16(&rt, &mut image, &mut index)?;
+    case_17(&rt, &mut image, &mut index)?;
+    case_18(&rt, &mut image, &mut index)?;
+    case_19(&rt, &mut image, &mut index)?;
+    case_20(&rt, &mut image, &mut index)?;
+    case_21(&rt, &mut image, &mut index)
 }

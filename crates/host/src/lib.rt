@@ -17,6 +17,7 @@ const VALUE_END: u64 = 72057594037927936;
 const REGION_END: u64 = 65536;
 
 // A number that names no geometry gives one that no call allows.
+#[tactic(auto, unfolding(crate::specs::Host::geometry_of))]
 fn geometry_of(n: u32) -> Geometry
     ensures { result ≡ geometry_of n }
 {

@@ -6,6 +6,7 @@ ghost use Rattle.leaves.specs.Copy.{answered, left};
 ghost use Rattle.leaves.specs.Look.{looked};
 
 // Answers 1 and changes nothing where the lengths differ; otherwise copies, and answers 0.
+#[tactic(auto, unfolding(crate::specs::Copy::answered, crate::specs::Copy::left))]
 #[unsafe(no_mangle)]
 pub extern "C" fn leaf_copy(from: &[u8], to: &mut [u8]) -> u32
     ensures { (result ≡ answered from.now to.old) × (to.new ≡ left from.now to.old) }
@@ -18,6 +19,7 @@ pub extern "C" fn leaf_copy(from: &[u8], to: &mut [u8]) -> u32
 }
 
 // Answers 1 where every byte is zero, and 0 otherwise.
+#[tactic(auto, unfolding(crate::specs::Look::looked))]
 #[unsafe(no_mangle)]
 pub extern "C" fn leaf_all_zero(bytes: &[u8]) -> u32
     ensures { result ≡ looked bytes.now }

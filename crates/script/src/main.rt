@@ -1,13 +1,14 @@
 // The script program: lays a zeroed image in BENCH, of version 2, then does what the records of 16 bytes on standard input say, a line for each.
 #![tactic(auto)]
 
-ghost use Rattle.std.specs.Prelude.{◌≡◌, ◌≤◌, length, replicate};
+ghost use Rattle.std.specs.Prelude.{◌≡◌, ◌≤◌, length, replicate, IfOk};
 ghost use Rattle.paper.specs.Calls.{load, store};
 ghost use Rattle.paper.specs.Outcomes.{lent};
 ghost use Rattle.paper.specs.Script.{script_start, record_bytes, operation_in, length_in, operations, line_of, tells, sum_of, called, most_length, among, told};
 
-use libc::{STDIN_FILENO, STDOUT_FILENO};
 use paper::{Answer, Edition, Geometry, Offset, Pages, Region, Version};
+use std::io;
+use std::io::{Read, Stdin};
 
 const G: Geometry = Geometry::BENCH;
 
@@ -54,18 +55,15 @@ const ODD: u8 = 99;
 
 const SHORT: u8 = 98;
 
-fn print_line(refusal: u64, value: u64) {
-    io::print_decimal(STDOUT_FILENO, refusal);
-    io::write_all(STDOUT_FILENO, b" ");
-    io::print_decimal(STDOUT_FILENO, value);
-    io::write_all(STDOUT_FILENO, b"\n");
+fn print_line(rt: &HostRuntime, refusal: u64, value: u64) -> io::Result<()> {
+    println!(rt; "{refusal} {value}")
 }
 
-fn print_refusal(a: Answer) {
+fn print_refusal(rt: &HostRuntime, a: Answer) -> io::Result<()> {
     let Answer::Refused(k) = a else {
-        return;
+        return Ok(());
     };
-    print_line(k as u64, 0);
+    print_line(rt, k as u64, 0)
 }
 
 fn sum(bytes: &[u8]) -> u64
@@ -168,32 +166,49 @@ fn valued(a: Answer) -> Answer
     Answer::Done(region.0 as u64)
 }
 
+// Reads until the record is full or the input ends, and tells how many bytes it got.
+fn read_record(input: &mut Stdin, bytes: &mut [u8]) -> io::Result<usize>
+    ensures { IfOk result (λ n. n ≤ length bytes.new) }
+{
+    let mut got = 0;
+    while got < bytes.len() {
+        let n = input.read(&mut bytes[got..])?;
+        if n == 0 {
+            return Ok(got);
+        }
+        got += n;
+    }
+    Ok(got)
+}
+
 // Nothing says that the input ends, so the turns are counted down, from a number that no run uses up.
-fn run(image: &mut [u8], index: &mut [u8])
+fn run(rt: &HostRuntime, image: &mut [u8], index: &mut [u8]) -> io::Result<()>
     requires { lent image.old index.old ≡ script_start }
 {
+    let mut input = rt.stdin();
     let mut turns = u64::MAX;
     while turns > 0 {
         turns -= 1;
         let mut step = [0u8; RECORD];
-        let got = io::read_full(STDIN_FILENO, &mut step);
+        let got = read_record(&mut input, &mut step)?;
         if got == 0 {
-            return;
+            return Ok(());
         }
         let a = valued(perform(image, index, &step[0..got]));
         let Answer::Done(v) = a else {
-            print_refusal(a);
+            print_refusal(rt, a)?;
             continue;
         };
-        print_line(0, v);
+        print_line(rt, 0, v)?;
     }
+    Ok(())
 }
 
-fn main() {
+fn main(rt: HostRuntime) -> io::Result<()> {
     let mut image = [0u8; IMAGE];
     let mut index = [0u8; INDEX];
     let Answer::Done(_) = laying::lay(G, Version::Two, &mut image, &mut index) else {
-        return;
+        return Ok(());
     };
-    run(&mut image, &mut index);
+    run(&rt, &mut image, &mut index)
 }
