@@ -13,7 +13,7 @@ use Rattle.paper.specs.declared.Geometry.{Geometry}
 use Rattle.paper.specs.Geometry.{block_bytes, Allowed, data_at, need, capacity, most_book_pages}
 use Rattle.paper.specs.Image.{front, pages_of, is_open, need_of, block_of, set_pages}
 use Rattle.paper.specs.Calls.{new_blocks, grown_front, grown, stored}
-use Rattle.paper.specs.Refusals.{usable, callable}
+use Rattle.paper.specs.Refusals.{callable}
 use Rattle.paper.proofs.Arithmetic.{capacity_blocks, need_mono, book_bytes_bound}
 use Rattle.rules.specs.Facts.{Formed, fronted}
 use Rattle.rules.specs.Touched.{end_touched}
