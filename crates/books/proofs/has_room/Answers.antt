@@ -40,7 +40,10 @@ overflow_mul-most c =
     record { fits = omega (arith, product_small c.args.g c.requires.readable.allowed k (omega (arith, small taken, c.need.ensures))) }
 
 pub overflow_sub-result : goal.overflow_sub-result
-overflow_sub-result c = rw c.need.ensures (holds_old c.args.g c.requires.readable.allowed.pages_least c.pages-old.result.0 _)
+overflow_sub-result c =
+    let taken = (goal.at.overflow_sub-result c).After-taken in
+    let held = holds_old c.args.g c.requires.readable.allowed.pages_least c.pages-old.result.0 (blocks taken) in
+    omega (arith, rw (← c.need.ensures) at held)
 
 pub returns : goal.returns
 returns c =

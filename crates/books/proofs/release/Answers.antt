@@ -1,5 +1,6 @@
 -- `books::release` meets its contract: refused by 1 to 7, by 8, by 18, or done.
 use mathlib.Core.Bool.{true}
+use mathlib.Core.Logic.{◌≢◌}
 use mathlib.Core.Path.{◌≡◌, sym, ◌∙◌}
 use borrow.Author.Tests.{eqb-true, eqb-false}
 use lib.ListN.{length}
@@ -28,9 +29,9 @@ ordered c = ordered_shown _ _ _ (sym c.ordered-no.ensures ∙ c.if-no-ne0.false)
 may : (c : Else-not-usable) → usable c.args.g (front c.args.g c.args.image.now) c.args.region.0 ≡ true
 may c = sym c.usable.ensures ∙ c.if-not-usable.false
 
-can : (c : Else-not-usable) → Ordered c.args.g c.args.image.now c.args.index.now
+can : (c : Else-not-usable) → Ordered c.args.g c.args.image.now c.args.index.now → c.args.region.0 ≢ 0
     → Releasable c.args.g (front c.args.g c.args.image.now) c.args.region.0
-can c O = releasable c.args.g c.args.image.now c.args.index.now O c.args.region.0 c.if-region-eq0.false (may c)
+can c O ne = releasable c.args.g c.args.image.now c.args.index.now O c.args.region.0 ne (may c)
 
 pub returns-then-no-ne0 : goal.returns-then-no-ne0
 returns-then-no-ne0 c =
@@ -65,7 +66,7 @@ pub is_edition-requires-clause-region_lt_entries : goal.is_edition-requires-clau
 is_edition-requires-clause-region_lt_entries c =
     let a = c.args in
     let p = goal.at.is_edition-requires-clause-region_lt_entries c in
-    open_below a.g (front a.g a.image.now) a.region.0 (can p.Else-not-usable (ordered p.Else-no-ne0)).opened
+    open_below a.g (front a.g a.image.now) a.region.0 (can p.Else-not-usable (ordered p.Else-no-ne0) c.if-region-eq0.false).opened
 
 pub returns-then-not-is_edition : goal.returns-then-not-is_edition
 returns-then-not-is_edition c =
@@ -83,7 +84,7 @@ release_tables-requires-clause-readable c =
 pub release_tables-requires-clause-releasable : goal.release_tables-requires-clause-releasable
 release_tables-requires-clause-releasable c =
     let p = goal.at.release_tables-requires-clause-releasable c in
-    can p.Else-not-usable (ordered p.Else-no-ne0)
+    can p.Else-not-usable (ordered p.Else-no-ne0) c.if-region-eq0.false
 
 pub index_anew-requires-clause-readable : goal.index_anew-requires-clause-readable
 index_anew-requires-clause-readable c =
@@ -91,7 +92,7 @@ index_anew-requires-clause-readable c =
     let p = goal.at.index_anew-requires-clause-readable c in
     let t = front a.g a.image.now in
     let O = ordered p.Else-no-ne0 in
-    let R = can p.Else-not-usable O in
+    let R = can p.Else-not-usable O c.if-region-eq0.false in
     let w = c.release_tables in
     (writable a.g a.image.now a.index.now w.new.image (released a.g a.region.0 t) O w.auto.image w.ensures
     (released_as a.g O.geometry (capacity a.g (length a.image.now)) t O.formed a.region.0 R.opened R.least).formed).0
@@ -102,7 +103,7 @@ index_anew-requires-clause-formed c =
     let p = goal.at.index_anew-requires-clause-formed c in
     let t = front a.g a.image.now in
     let O = ordered p.Else-no-ne0 in
-    let R = can p.Else-not-usable O in
+    let R = can p.Else-not-usable O c.if-region-eq0.false in
     let w = c.release_tables in
     (writable a.g a.image.now a.index.now w.new.image (released a.g a.region.0 t) O w.auto.image w.ensures
     (released_as a.g O.geometry (capacity a.g (length a.image.now)) t O.formed a.region.0 R.opened R.least).formed).1
