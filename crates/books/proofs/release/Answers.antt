@@ -66,14 +66,14 @@ pub is_edition-requires-clause-region_lt_entries : goal.is_edition-requires-clau
 is_edition-requires-clause-region_lt_entries c =
     let a = c.args in
     let p = goal.at.is_edition-requires-clause-region_lt_entries c in
-    open_below a.g (front a.g a.image.now) a.region.0 (can p.Else-not-usable (ordered p.Else-no-ne0) c.if-region-eq0.false).opened
+    open_below a.g (front a.g a.image.now) a.region.0 (can p.Else-not-usable (ordered p.Else-no-ne0) (assumption)).opened
 
 pub returns-then-not-is_edition : goal.returns-then-not-is_edition
 returns-then-not-is_edition c =
     let a = c.args in
     let p = goal.at.returns-then-not-is_edition c in
     let wrong = eqb-false _ _ (sym c.is_edition.ensures ∙ c.if-not-is_edition.true) in
-    let k = release_18 a.g a.image.now a.index.now a.region.0 a.edition.0 (ordered p.Else-no-ne0) (may p.Else-not-usable) c.if-region-eq0.false
+    let k = release_18 a.g a.image.now a.index.now a.region.0 a.edition.0 (ordered p.Else-no-ne0) (may p.Else-not-usable) (assumption)
     wrong in
     sym (refused a.g (release a.region.0 a.edition.0) (lent a.image.now a.index.now) 18 k (omega arith))
 
@@ -84,7 +84,7 @@ release_tables-requires-clause-readable c =
 pub release_tables-requires-clause-releasable : goal.release_tables-requires-clause-releasable
 release_tables-requires-clause-releasable c =
     let p = goal.at.release_tables-requires-clause-releasable c in
-    can p.Else-not-usable (ordered p.Else-no-ne0) c.if-region-eq0.false
+    can p.Else-not-usable (ordered p.Else-no-ne0) (assumption)
 
 pub index_anew-requires-clause-readable : goal.index_anew-requires-clause-readable
 index_anew-requires-clause-readable c =
@@ -92,7 +92,7 @@ index_anew-requires-clause-readable c =
     let p = goal.at.index_anew-requires-clause-readable c in
     let t = front a.g a.image.now in
     let O = ordered p.Else-no-ne0 in
-    let R = can p.Else-not-usable O c.if-region-eq0.false in
+    let R = can p.Else-not-usable O (assumption) in
     let w = c.release_tables in
     (writable a.g a.image.now a.index.now w.new.image (released a.g a.region.0 t) O w.auto.image w.ensures
     (released_as a.g O.geometry (capacity a.g (length a.image.now)) t O.formed a.region.0 R.opened R.least).formed).0
@@ -103,7 +103,7 @@ index_anew-requires-clause-formed c =
     let p = goal.at.index_anew-requires-clause-formed c in
     let t = front a.g a.image.now in
     let O = ordered p.Else-no-ne0 in
-    let R = can p.Else-not-usable O c.if-region-eq0.false in
+    let R = can p.Else-not-usable O (assumption) in
     let w = c.release_tables in
     (writable a.g a.image.now a.index.now w.new.image (released a.g a.region.0 t) O w.auto.image w.ensures
     (released_as a.g O.geometry (capacity a.g (length a.image.now)) t O.formed a.region.0 R.opened R.least).formed).1
@@ -115,7 +115,7 @@ returns c =
     let O = ordered p.Else-no-ne0 in
     let w = c.release_tables in
     let named = eqb-true _ _ (sym c.is_edition.ensures ∙ c.if-not-is_edition.false) in
-    let k = release_0 a.g a.image.now a.index.now a.region.0 a.edition.0 O (may p.Else-not-usable) c.if-region-eq0.false named in
+    let k = release_0 a.g a.image.now a.index.now a.region.0 a.edition.0 O (may p.Else-not-usable) (assumption) named in
     left_tabled a.g a.image.now w.new.image (released a.g a.region.0 (front a.g a.image.now)) (readable a.g a.image.now a.index.now O)
     w.auto.image w.ensures (Done 0) c.index_anew.new.index c.index_anew.ensures
     ∙ sym (release_done a.g (lent a.image.now a.index.now) a.region.0 a.edition.0 k)
