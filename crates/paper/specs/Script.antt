@@ -45,7 +45,7 @@ abbrev pub ◌makes◌ : ℕ → Call → Operation
 ◌makes◌ k c = record { no = k; call = c }
 
 -- a store writes the fill byte length times. What a load's buffer held has no influence on what is told, for the loaded bytes replace it
--- (rules/proofs/Script: buffer-replaced), so zeros are lent
+-- (rules/proofs/Script: buffer_replaced), so zeros are lent
 abbrev pub operations : List ℕ → List Operation
 operations r =
     1 makes «open»
