@@ -16,14 +16,6 @@ use Rattle.index.proofs.write_index.Goals.{After-write_starts, Start}
 indexed : (c : After-write_starts) → Indexed c.args.g c.write_starts.new.index
 indexed c = let p = c.requires in record { allowed = p.readable.1.allowed; long = c.write_starts.auto.index ∙ p.readable.1.long }
 
-pub put_blocks-requires-clause-starts : goal.put_blocks-requires-clause-starts
-put_blocks-requires-clause-starts c =
-    let a = c.args in
-    let index = c.write_starts.new.index in
-    let empty : ℕ → List ℕ = λ o. splice o (join_below a.g.blocks (λ _. le 2 no_block)) index in
-    let long = indexed (goal.at.put_blocks-requires-clause-starts c).After-write_starts in
-    rw (c.fill_u16.ensures ∙ ap empty c.slot_at.ensures) (starts_emptied a.g (front a.g a.image.now) index long c.write_starts.ensures)
-
 pub put_blocks-requires-clause-spare : goal.put_blocks-requires-clause-spare
 put_blocks-requires-clause-spare c =
     let a = c.args in
@@ -31,6 +23,14 @@ put_blocks-requires-clause-spare c =
     let empty : ℕ → List ℕ = λ o. splice o (join_below a.g.blocks (λ _. le 2 no_block)) index in
     let long = indexed (goal.at.put_blocks-requires-clause-spare c).After-write_starts in
     rw (c.fill_u16.ensures ∙ ap empty c.slot_at.ensures) (spare_emptied a.g (front a.g a.image.now) index long)
+
+pub put_blocks-requires-clause-starts : goal.put_blocks-requires-clause-starts
+put_blocks-requires-clause-starts c =
+    let a = c.args in
+    let index = c.write_starts.new.index in
+    let empty : ℕ → List ℕ = λ o. splice o (join_below a.g.blocks (λ _. le 2 no_block)) index in
+    let long = indexed (goal.at.put_blocks-requires-clause-starts c).After-write_starts in
+    rw (c.fill_u16.ensures ∙ ap empty c.slot_at.ensures) (starts_emptied a.g (front a.g a.image.now) index long c.write_starts.ensures)
 
 pub returns : goal.returns
 returns c =

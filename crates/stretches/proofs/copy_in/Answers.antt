@@ -43,7 +43,7 @@ stretch_at-s-requires c =
     ((reads_index a.g a.image.now a.index.now a.r.0 _ (length a.bytes.now) c.requires.0).0, T.slot, T.inside)
 
 pub copy_part-requires : goal.copy_part-requires
-copy_part-requires c = let F = fits (goal.at.copy_part-requires c).After-stretch_at-s in (F.asked, F.image)
+copy_part-requires c = let F = fits (goal.at.copy_part-requires c).After-stretch_at-s in (omega (arith, F.asked), omega (arith, F.image))
 
 pub next_block-at-requires : goal.next_block-at-requires
 next_block-at-requires c = (turn (goal.at.next_block-at-requires c).In-loop-left).bounded

@@ -51,9 +51,6 @@ stretch_at-s-requires c =
 pub overflow_add-from : goal.overflow_add-from
 overflow_add-from c = let F = fits (goal.at.overflow_add-from c).After-stretch_at-s in omega arith
 
-pub slice_bounds-copy-end : goal.slice_bounds-copy-end
-slice_bounds-copy-end c = let F = fits (goal.at.slice_bounds-copy-end c).After-stretch_at-s in omega arith
-
 pub next_block-at-requires : goal.next_block-at-requires
 next_block-at-requires c = (turn (goal.at.next_block-at-requires c).In-loop-left).bounded
 
@@ -83,6 +80,9 @@ loop-left-preserved c =
       rw (e, S.at, x.invariant.2, more) (read_length a.g A at o a.image.now a.buffer.now (d + q.bytes) F.asked),
       rw (e, S.at, x.invariant.2, more, l),
     )
+
+pub slice_bounds-copy-end : goal.slice_bounds-copy-end
+slice_bounds-copy-end c = let F = fits (goal.at.slice_bounds-copy-end c).After-stretch_at-s in omega arith
 
 pub returns : goal.returns
 returns c =
