@@ -6,7 +6,7 @@ use mathlib.Core.List.{List}
 use native.Mathlib.Omega.{arith}
 use Rattle.paper.specs.declared.Geometry.{Geometry}
 use Rattle.paper.specs.declared.Spot.{Spot}
-use Rattle.paper.specs.declared.Answer.TheVariants.{Refused}
+use Rattle.paper.specs.Answers.{Refused}
 use Rattle.paper.specs.Geometry.{block_bytes}
 use Rattle.paper.specs.Calls.{Call}
 use Rattle.paper.specs.Refusals.{refusal}

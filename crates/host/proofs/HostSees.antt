@@ -10,7 +10,7 @@ use lib.Arith.{digits_div, digits_mod}
 use lib.IntN.{pos}
 use lib.ListN.{length}
 use Rattle.paper.specs.declared.Geometry.{Geometry}
-use Rattle.paper.specs.declared.Answer.{Answer}
+use Rattle.paper.specs.Answers.{Answer}
 use Rattle.paper.specs.Geometry.{last_edition, block_bytes, allowed, Allowed, capacity, most_book_pages}
 use Rattle.paper.specs.Image.{front, pages_of, edition_of}
 use Rattle.paper.specs.Calls.{Call, lay, «open», grow, load, store, look, size, release, recover, next_region}

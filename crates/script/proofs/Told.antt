@@ -8,8 +8,7 @@ use native.Mathlib.Nat.{sub-zero}
 use lib.ListN.{length, get_or, take, drop, replicate}
 use Rattle.std.proofs.Common.{length-take-le}
 use Rattle.laws.proofs.Bytes.{num_one}
-use Rattle.paper.specs.declared.Answer.{Answer}
-use Rattle.paper.specs.declared.Answer.TheVariants.{Done}
+use Rattle.paper.specs.Answers.{Answer, Done}
 use Rattle.paper.specs.Geometry.{bench}
 use Rattle.paper.specs.Calls.{Call, load, store, size}
 use Rattle.paper.specs.Outcomes.{State, lent, gives, outcome}

@@ -5,7 +5,7 @@ use mathlib.Core.Path.{◌≡◌, sym, ◌∙◌}
 use borrow.Author.Tests.{eqb-true, eqb-false}
 use lib.ListN.{length}
 use Rattle.laws.proofs.Tests.{clash}
-use Rattle.paper.specs.declared.Answer.TheVariants.{Done}
+use Rattle.paper.specs.Answers.{Done}
 use Rattle.paper.specs.Geometry.{capacity}
 use Rattle.paper.specs.Image.{front}
 use Rattle.paper.specs.Calls.{release, released}
