@@ -1,108 +1,100 @@
 // Recovery, and the check of a lent index against what recovery would give.
 #![tactic(auto)]
 
-ghost use Rattle.std.specs.Prelude.{◌≡◌, [], ◌≤◌};
-ghost use Rattle.paper.specs.Image.{front, taken};
+ghost use Rattle.std.specs.Prelude.{◌≡◌, [], ◌≤◌, IfOk};
+ghost use Rattle.paper.specs.Image.{taken};
 ghost use Rattle.paper.specs.WellFormed.{in_order};
 ghost use Rattle.paper.specs.Calls.{recover};
+ghost use Rattle.paper.specs.Answers.{number_in, answered, plain};
 ghost use Rattle.paper.specs.Outcomes.{lent, gives, outcome};
 ghost use Rattle.paper.specs.Refusals.{refusal};
 ghost use Rattle.rules.specs.Lines.{ordered_no};
+ghost use Rattle.image.specs.Views.{front_of, IsImage};
 ghost use Rattle.recovery.specs.Refused.{loosely, vouched};
-ghost use Rattle.rules.specs.Facts.{Readable, Indexed};
 
-use paper::{Answer, Geometry};
+use image::Image;
+use index::Lent;
+use paper::{Geometry, Refusal};
 
 // Rules a to e, but for the last sentence of d.
-fn loosely(g: Geometry, image: &[u8]) -> bool
-    requires readable { Readable g image.now }
-    requires image_bound { taken g (front g image.now) ≤ g.blocks }
-    ensures { result ≡ loosely g (front g image.now) }
+fn loosely(image: &Image<'_>) -> bool
+    requires image_bound { taken image.now.g (front_of image.now) ≤ image.now.g.blocks }
+    ensures { result ≡ loosely image.now.g (front_of image.now) }
 {
-    if !image::regions_in_order(g, image) {
+    if !image.regions_in_order() {
         return false;
     }
-    if !image::all_named(g, image) {
+    if !image.all_named() {
         return false;
     }
-    image::rule_e(g, image)
+    image.rule_e()
 }
 
-fn in_order(g: Geometry, image: &[u8]) -> bool
-    requires readable { Readable g image.now }
-    requires image_bound { taken g (front g image.now) ≤ g.blocks }
-    ensures { result ≡ in_order g (front g image.now) }
+fn in_order(image: &Image<'_>) -> bool
+    requires image_bound { taken image.now.g (front_of image.now) ≤ image.now.g.blocks }
+    ensures { result ≡ in_order image.now.g (front_of image.now) }
 {
-    if !loosely(g, image) {
+    if !loosely(image) {
         return false;
     }
-    index::alone_all(g, image)
+    index::alone_all(image)
 }
 
 // 1 to 4, 16, 5, 6.
-fn recover_refusal(g: Geometry, image: &[u8], index: &[u8]) -> u8
-    ensures { result ≡ refusal g image.now index.now recover }
+fn recoverable<'a>(g: Geometry, image: &'a [u8], index: &[u8]) -> Result<Image<'a>, Refusal>
+    ensures number { number_in result ≡ refusal g image.now index.now recover }
+    ensures image { IfOk result (λ i. IsImage g image.now i) }
 {
-    let no = desk::indexed_head(g, image, index);
-    if no != 0 {
-        return no;
+    let image = desk::indexed_head(g, image, index)?.image;
+    if !image.unused_blank() {
+        return Err(Refusal::Newer);
     }
-    if !image::unused_blank(g, image) {
-        return desk::NEWER;
+    if desk::tail_missing(&image) {
+        return Err(Refusal::TailMissing);
     }
-    if desk::tail_missing(g, image) {
-        return desk::TAIL_MISSING;
+    if !in_order(&image) {
+        return Err(Refusal::TablesWrong);
     }
-    if !in_order(g, image) {
-        return desk::TABLES;
-    }
-    0
+    Ok(image)
 }
 
 // Whether the tables keep the rules and the index is what recovery would give: the index is its own witness. Its starts tell the needs and
 // their sum, so that each book fits, and its slots that no two blocks name the same pair.
-fn vouched(g: Geometry, image: &[u8], index: &[u8]) -> bool
-    requires readable { Readable g image.now × Indexed g index.now }
-    requires image_bound { taken g (front g image.now) ≤ g.blocks }
-    ensures { result ≡ vouched g (front g image.now) index.now }
+fn vouched(lent: &Lent<'_, '_>) -> bool
+    requires image_bound { taken lent.now.image.g (front_of lent.now.image) ≤ lent.now.image.g.blocks }
+    ensures { result ≡ vouched lent.now.image.g (front_of lent.now.image) lent.now.index.bytes.now }
 {
-    if !image::rule_a(g, image) {
+    if !lent.image.rule_a() {
         return false;
     }
-    if !image::reclaimed_whole(g, image) {
+    if !lent.image.reclaimed_whole() {
         return false;
     }
-    if !image::rule_e(g, image) {
+    if !lent.image.rule_e() {
         return false;
     }
-    index::witnessed(g, image, index)
+    lent.witnessed()
 }
 
 // 1 to 7. Only where the index is not its own witness are the rules asked of the tables alone, to tell 6 from 7.
-pub fn ordered(g: Geometry, image: &[u8], index: &[u8]) -> u8
-    ensures { result ≡ ordered_no g image.now index.now }
+pub fn ordered(g: Geometry, image: &[u8], index: &[u8]) -> Result<(), Refusal>
+    ensures { number_in result ≡ ordered_no g image.now index.now }
 {
-    let no = desk::entered(g, image, index);
-    if no != 0 {
-        return no;
+    let lent = desk::entered(g, image, index)?;
+    if vouched(&lent) {
+        return Ok(());
     }
-    if vouched(g, image, index) {
-        return 0;
+    if !in_order(&lent.image) {
+        return Err(Refusal::TablesWrong);
     }
-    if !in_order(g, image) {
-        return desk::TABLES;
-    }
-    desk::INDEX
+    Err(Refusal::IndexWrong)
 }
 
 // Recover: writes the whole index from the image.
-pub fn recover(g: Geometry, image: &[u8], index: &mut [u8]) -> Answer
-    ensures { gives result [] (lent image.now index.new) ≡ outcome g recover (lent image.now index.old) }
+pub fn recover(g: Geometry, image: &[u8], index: &mut [u8]) -> Result<(), Refusal>
+    ensures { gives (answered plain result) [] (lent image.now index.new) ≡ outcome g recover (lent image.now index.old) }
 {
-    let no = recover_refusal(g, image, index);
-    if no != 0 {
-        return Answer::Refused(no);
-    }
-    index::write_index(g, image, index);
-    Answer::Done(0)
+    let image = recoverable(g, image, index)?;
+    index::write_index(&image, index);
+    Ok(())
 }
