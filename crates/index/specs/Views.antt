@@ -6,6 +6,6 @@ use Rattle.index.specs.declared.Lent.{Lent}
 
 -- both are this geometry's, with these bytes
 pub record IsLent (g : Geometry) (image index : List ℕ) (l : Lent) : Type 0 where
-  pub image : IsImage g image l.image
+  pub of_image : IsImage g image l.image
   pub geometry : l.index.g ≡ g
-  pub lent : l.index.bytes.now ≡ index
+  pub of_index : l.index.bytes.now ≡ index
