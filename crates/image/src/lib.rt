@@ -46,11 +46,19 @@ impl Image<'_> {
         Region(u16::read(self.bytes, self.g.entry_at(b)) as u32)
     }
 
+    // The position as the entry has it: two bytes, so that the pages before it can be counted in eight.
+    fn stored_place(&self, b: Block) -> u16
+        requires b_lt_blocks { b.0 < self.now.g.blocks }
+        ensures { result ≡ place self.now.g (front_of self.now) b.0 }
+    {
+        u16::read(self.bytes, self.g.entry_at(b) + 2)
+    }
+
     pub fn place(&self, b: Block) -> Position
         requires b_lt_blocks { b.0 < self.now.g.blocks }
         ensures { result.0 ≡ place self.now.g (front_of self.now) b.0 }
     {
-        Position(u16::read(self.bytes, self.g.entry_at(b) + 2) as usize)
+        Position(self.stored_place(b) as usize)
     }
 
     // Version 3 keeps the low half of a region's entry for the pages, and the high half for the edition.
@@ -68,10 +76,18 @@ impl Image<'_> {
         let at = self.g.size_at(r);
         if self.is_version_3() {
             let n = u32::read(self.bytes, at);
-            return if n == paper::LOW_ONES { None } else { Some(Pages(n as u64)) };
+            return if n == paper::LOW_ONES {
+                None
+            } else {
+                Some(Pages(n as u64))
+            };
         }
         let n = u64::read(self.bytes, at);
-        if n == paper::ALL_ONES { None } else { Some(Pages(n)) }
+        if n == paper::ALL_ONES {
+            None
+        } else {
+            Some(Pages(n))
+        }
     }
 
     pub fn is_open(&self, r: Region) -> bool
@@ -264,13 +280,22 @@ impl Image<'_> {
         paper::ALL_ONES
     }
 
-    // Both sentences about the regions from C on, by one look at each entry.
+    // A region that was never given out, by one look at its whole entry.
+    fn is_fresh(&self, r: Region, entry: u64) -> bool
+        requires r_lt_entries { r.0 < self.now.g.entries }
+        requires entry_fresh { entry ≡ all_ones (size_width (version_of self.now.g (front_of self.now))) }
+        ensures { result ≡ fresh self.now.g (front_of self.now) r.0 }
+    {
+        u64::read(self.bytes, self.g.size_at(r)) == entry
+    }
+
+    // Both sentences about the regions from C on.
     fn high_fresh(&self) -> bool
         ensures { result ≡ all_from (counter self.now.g (front_of self.now)) self.now.g.entries (fresh self.now.g (front_of self.now)) }
     {
         let entry = self.fresh_entry();
         let c = self.counter().0 as usize;
-        (c..self.g.entries).all(|r| u64::read(self.bytes, self.g.size_at(Region(r as u32))) == entry)
+        (c..self.g.entries).all(|r| self.is_fresh(Region(r as u32), entry))
     }
 
     fn is_current(&self, r: Region) -> bool
@@ -361,7 +386,7 @@ impl Image<'_> {
         if self.g.entries <= r.0 as usize {
             return false;
         }
-        let before = self.place(b).0 as u64 * self.g.pages as u64;
+        let before = self.stored_place(b) as u64 * self.g.pages as u64;
         before < self.pages(r).0
     }
 
