@@ -36,7 +36,12 @@ pub extern "C" fn any_lay(
 ) -> u64
     ensures { sees result [] (lent image.new index.new) ≡ host_sees (outcome (given page pages blocks entries) (lay Three) (lent image.old index.old)) }
 {
-    host::lay(given(page, pages, blocks, entries), Version::Three, image, index)
+    host::lay(
+        given(page, pages, blocks, entries),
+        Version::Three,
+        image,
+        index,
+    )
 }
 
 #[unsafe(no_mangle)]
@@ -50,7 +55,12 @@ pub extern "C" fn any_lay_version_2(
 ) -> u64
     ensures { sees result [] (lent image.new index.new) ≡ host_sees (outcome (given page pages blocks entries) (lay Two) (lent image.old index.old)) }
 {
-    host::lay(given(page, pages, blocks, entries), Version::Two, image, index)
+    host::lay(
+        given(page, pages, blocks, entries),
+        Version::Two,
+        image,
+        index,
+    )
 }
 
 #[unsafe(no_mangle)]
@@ -65,7 +75,12 @@ pub extern "C" fn any_move(
 ) -> u64
     ensures { sees result [] (lent image.new index.new) ≡ host_sees (move_outcome (given page pages blocks entries) old (lent image.old index.old)) }
 {
-    host::move_over(given(page, pages, blocks, entries), image, index, Pages(old))
+    host::move_over(
+        given(page, pages, blocks, entries),
+        image,
+        index,
+        Pages(old),
+    )
 }
 
 #[unsafe(no_mangle)]
@@ -96,7 +111,13 @@ pub extern "C" fn any_grow(
 ) -> u64
     ensures { sees result [] (lent image.new index.new) ≡ host_sees (outcome (given page pages blocks entries) (grow region edition more) (lent image.old index.old)) }
 {
-    host::grow(given(page, pages, blocks, entries), image, index, book_of(region, edition), Pages(more))
+    host::grow(
+        given(page, pages, blocks, entries),
+        image,
+        index,
+        book_of(region, edition),
+        Pages(more),
+    )
 }
 
 #[unsafe(no_mangle)]
@@ -114,7 +135,14 @@ pub extern "C" fn any_load(
 ) -> u64
     ensures { sees result buffer.new (lent image.now index.now) ≡ host_sees (outcome (given page pages blocks entries) (load region edition offset buffer.old) (lent image.now index.now)) }
 {
-    host::load(given(page, pages, blocks, entries), image, index, book_of(region, edition), Offset(offset), buffer)
+    host::load(
+        given(page, pages, blocks, entries),
+        image,
+        index,
+        book_of(region, edition),
+        Offset(offset),
+        buffer,
+    )
 }
 
 #[unsafe(no_mangle)]
@@ -132,7 +160,14 @@ pub extern "C" fn any_store(
 ) -> u64
     ensures { sees result [] (lent image.new index.now) ≡ host_sees (outcome (given page pages blocks entries) (store region edition offset bytes.now) (lent image.old index.now)) }
 {
-    host::store(given(page, pages, blocks, entries), image, index, book_of(region, edition), Offset(offset), bytes)
+    host::store(
+        given(page, pages, blocks, entries),
+        image,
+        index,
+        book_of(region, edition),
+        Offset(offset),
+        bytes,
+    )
 }
 
 #[unsafe(no_mangle)]
@@ -147,7 +182,11 @@ pub extern "C" fn any_size(
 ) -> u64
     ensures { sees result [] (lent image.now []) ≡ host_sees (outcome (given page pages blocks entries) (size region edition) (lent image.now [])) }
 {
-    host::size(given(page, pages, blocks, entries), image, book_of(region, edition))
+    host::size(
+        given(page, pages, blocks, entries),
+        image,
+        book_of(region, edition),
+    )
 }
 
 #[unsafe(no_mangle)]
@@ -163,7 +202,12 @@ pub extern "C" fn any_release(
 ) -> u64
     ensures { sees result [] (lent image.new index.new) ≡ host_sees (outcome (given page pages blocks entries) (release region edition) (lent image.old index.old)) }
 {
-    host::release(given(page, pages, blocks, entries), image, index, book_of(region, edition))
+    host::release(
+        given(page, pages, blocks, entries),
+        image,
+        index,
+        book_of(region, edition),
+    )
 }
 
 #[unsafe(no_mangle)]

@@ -12,10 +12,10 @@ ghost use Rattle.host.specs.Host.{geometry_of, packed, sees, host_sees};
 use paper::{Book, Edition, Geometry, Offset, Pages, Refusal, Region, Version};
 
 // 2^56. A value lies below it, and a refusal is counted in it.
-const VALUE_END: u64 = 72057594037927936;
+const VALUE_END: u64 = 1 << 56;
 
 // 2^16. A region lies below it, and in open's value its edition is counted in it.
-const REGION_END: u64 = 65536;
+const REGION_END: u64 = 1 << 16;
 
 // A number that names no geometry gives one that no call allows.
 #[tactic(auto, unfolding(crate::specs::Host::geometry_of))]
@@ -113,13 +113,27 @@ pub fn grow(g: Geometry, image: &mut [u8], index: &mut [u8], book: Book, pages: 
     pack(books::grow(g, image, index, book, pages))
 }
 
-pub fn load(g: Geometry, image: &[u8], index: &[u8], book: Book, offset: Offset, buffer: &mut [u8]) -> u64
+pub fn load(
+    g: Geometry,
+    image: &[u8],
+    index: &[u8],
+    book: Book,
+    offset: Offset,
+    buffer: &mut [u8],
+) -> u64
     ensures { sees result buffer.new (lent image.now index.now) ≡ host_sees (outcome g (load book.region.0 book.edition.0 offset.0 buffer.old) (lent image.now index.now)) }
 {
     pack(contents::load(g, image, index, book, offset, buffer))
 }
 
-pub fn store(g: Geometry, image: &mut [u8], index: &[u8], book: Book, offset: Offset, bytes: &[u8]) -> u64
+pub fn store(
+    g: Geometry,
+    image: &mut [u8],
+    index: &[u8],
+    book: Book,
+    offset: Offset,
+    bytes: &[u8],
+) -> u64
     ensures { sees result [] (lent image.new index.now) ≡ host_sees (outcome g (store book.region.0 book.edition.0 offset.0 bytes.now) (lent image.old index.now)) }
 {
     pack(contents::store(g, image, index, book, offset, bytes))

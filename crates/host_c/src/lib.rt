@@ -50,7 +50,13 @@ pub extern "C" fn book_grow(
 ) -> u64
     ensures { sees result [] (lent image.new index.new) ≡ host_sees (outcome (geometry_of geometry) (grow region edition pages) (lent image.old index.old)) }
 {
-    host::grow(geometry_of(geometry), image, index, book_of(region, edition), Pages(pages))
+    host::grow(
+        geometry_of(geometry),
+        image,
+        index,
+        book_of(region, edition),
+        Pages(pages),
+    )
 }
 
 #[unsafe(no_mangle)]
@@ -65,7 +71,14 @@ pub extern "C" fn book_load(
 ) -> u64
     ensures { sees result buffer.new (lent image.now index.now) ≡ host_sees (outcome (geometry_of geometry) (load region edition offset buffer.old) (lent image.now index.now)) }
 {
-    host::load(geometry_of(geometry), image, index, book_of(region, edition), Offset(offset), buffer)
+    host::load(
+        geometry_of(geometry),
+        image,
+        index,
+        book_of(region, edition),
+        Offset(offset),
+        buffer,
+    )
 }
 
 #[unsafe(no_mangle)]
@@ -80,7 +93,14 @@ pub extern "C" fn book_store(
 ) -> u64
     ensures { sees result [] (lent image.new index.now) ≡ host_sees (outcome (geometry_of geometry) (store region edition offset bytes.now) (lent image.old index.now)) }
 {
-    host::store(geometry_of(geometry), image, index, book_of(region, edition), Offset(offset), bytes)
+    host::store(
+        geometry_of(geometry),
+        image,
+        index,
+        book_of(region, edition),
+        Offset(offset),
+        bytes,
+    )
 }
 
 #[unsafe(no_mangle)]
@@ -100,7 +120,12 @@ pub extern "C" fn book_release(
 ) -> u64
     ensures { sees result [] (lent image.new index.new) ≡ host_sees (outcome (geometry_of geometry) (release region edition) (lent image.old index.old)) }
 {
-    host::release(geometry_of(geometry), image, index, book_of(region, edition))
+    host::release(
+        geometry_of(geometry),
+        image,
+        index,
+        book_of(region, edition),
+    )
 }
 
 #[unsafe(no_mangle)]

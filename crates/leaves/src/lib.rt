@@ -24,8 +24,5 @@ pub extern "C" fn leaf_copy(from: &[u8], to: &mut [u8]) -> u32
 pub extern "C" fn leaf_all_zero(bytes: &[u8]) -> u32
     ensures { result ≡ looked bytes.now }
 {
-    if !numbers::all_zero(bytes) {
-        return 0;
-    }
-    1
+    numbers::all_zero(bytes) as u32
 }
