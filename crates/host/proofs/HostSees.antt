@@ -4,24 +4,36 @@ use mathlib.Core.Logic.{◌≢◌}
 use mathlib.Core.Path.{◌≡◌, refl, sym, ◌∙◌, ap, ap₂}
 use borrow.Author.Tests.{ne_eqb}
 use mathlib.Core.List.{List}
+use mathlib.Core.List.{List}
 use native.Mathlib.Omega.{arith}
 use native.Mathlib.Decide.{ℕ_discrete}
 use lib.Arith.{digits_div, digits_mod}
 use lib.IntN.{pos}
 use lib.ListN.{length}
 use Rattle.paper.specs.declared.Geometry.{Geometry}
+use Rattle.paper.specs.Answers.{Answer}
 use Rattle.paper.specs.Geometry.{last_edition, block_bytes, allowed, Allowed, capacity, most_book_pages}
 use Rattle.paper.specs.Image.{front, pages_of, edition_of}
 use Rattle.paper.specs.Calls.{Call, lay, «open», grow, load, store, look, size, release, recover, next_region}
 use Rattle.paper.specs.Refusals.{refusal}
 use Rattle.paper.specs.Move.{move_refusal, move_outcome}
-use Rattle.paper.specs.Outcomes.{value_of, edition_in, State, outcome}
+use Rattle.paper.specs.Outcomes.{value_of, edition_in, State, gives, outcome}
 use Rattle.paper.proofs.Arithmetic.{book_pages_bound}
 use Rattle.rules.proofs.Outcomes.{outcome_number, outcome_paper}
-use Rattle.host.specs.Host.{no_geometry, geometry_of, value_end, region_end, host_value, packed, HostSees, host_sees}
+use Rattle.host.specs.Host.{no_geometry, geometry_of, value_end, region_end, host_value, packed, HostSees, sees, host_sees}
 use Rattle.rules.proofs.Lines.{open_accepted, grow_accepted, size_accepted, refused_1, refused, move_done, move_refused, lay_done, open_done, grow_done, release_done, load_done, store_done, look_done, size_done, recover_done}
 use Rattle.rules.proofs.Usable.{usable_facts}
 use Rattle.keeping.proofs.Open.{open_next}
+
+-- the number is the answer's, the geometry is the one named, and the call kept its promise
+pub host_sees_lem : {n : ℕ} {a : Answer} {bytes : List ℕ} {s : State} {g h : Geometry} (c : Call) (t : State)
+    → n ≡ packed a → g ≡ h → gives a bytes s ≡ outcome g c t → sees n bytes s ≡ host_sees (outcome h c t)
+host_sees_lem {n} {a} {bytes} {s} {g} {h} c t e d f = ap (λ k. sees k bytes s) e ∙ ap host_sees (f ∙ ap (λ g. outcome g c t) d)
+
+-- so did the move
+pub host_sees_move : {n : ℕ} {a : Answer} {bytes : List ℕ} {s : State} {g h : Geometry} (m : ℕ) (t : State)
+    → n ≡ packed a → g ≡ h → gives a bytes s ≡ move_outcome g m t → sees n bytes s ≡ host_sees (move_outcome h m t)
+host_sees_move {n} {a} {bytes} {s} {g} {h} m t e d f = ap (λ k. sees k bytes s) e ∙ ap host_sees (f ∙ ap (λ g. move_outcome g m t) d)
 
 -- its value is 0, and two outcomes that its promise allows are equal
 pub move_value : (g : Geometry) (n : ℕ) (s : State) → (move_outcome g n s).value ≡ pos 0
