@@ -1,5 +1,5 @@
 -- `Geometry::capacity` meets its contract.
-use Rattle.std.proofs.Common.{ℕ, rules, ◌-◌, ◌/◌, min, ◌∙◌, ap, arith}
+use Rattle.std.proofs.Common.{arith}
 use Rattle.paper.specs.Geometry.{capacity}
 use Rattle.paper.proofs.Geometry.capacity.Goals as goal
 
