@@ -187,11 +187,10 @@ impl Lent<'_, '_> {
         if self.image.g.entries <= r.0 as usize {
             return false;
         }
-        let s = self.index.start(r) as usize + self.image.place(b).0;
-        if self.index.start(Region(r.0 + 1)) as usize <= s {
-            return false;
-        }
-        self.index.slot(s) == b
+        let start = self.index.start(r) as usize;
+        let need = self.index.start(Region(r.0 + 1)) as usize - start;
+        let place = self.image.place(b).0;
+        place < need && self.index.slot(start + place) == b
     }
 
     fn blocks_right(&self) -> bool
@@ -276,7 +275,8 @@ fn same_run(size: usize, a: usize, b: usize) -> u8
 
 // Block b's slot, where its region's start is among those at hand; some number elsewhere.
 fn slot_by(image: &Image<'_>, starts: &[u16], b: Block) -> usize
-    requires b_lt_blocks { b.0 < image.now.g.blocks }
+    requires tabled { Tabled image.now.g image.now.bytes.now }
+    requires b_bound { b.0 < taken image.now.g (front_of image.now) }
     requires starts_len { length starts.now ≡ regions_at_once }
     ensures { result ≡ slot_by image.now.g (front_of image.now) starts.now b.0 }
 {

@@ -2,19 +2,20 @@
 use Prim.Native.Nat.{◌+◌, ◌<◌}
 use mathlib.Core.Path.{◌≡◌, refl, sym, ◌∙◌}
 use Rattle.laws.proofs.Folds.{sum_none}
-use Rattle.paper.specs.Image.{front, taken}
+use Rattle.image.specs.Views.{front_of}
+use Rattle.paper.specs.Image.{taken}
 use Rattle.index.proofs.Slots.{start_below, regions_left}
 use Rattle.index.proofs.Repeats.{apart_none, apart_join, apart_part}
 use native.Mathlib.Omega.{arith}
 use Rattle.index.proofs.all_apart.Goals as goal
-use Rattle.index.proofs.all_apart.Goals.{After-lesser}
+use Rattle.index.proofs.all_apart.Goals.{After-min}
 
 -- slots are left, and so are regions
-left : (c : After-lesser) → c.loop-from.r < c.args.g.entries
+left : (c : After-min) → c.loop-from.r < c.args.image.now.g.entries
 left c =
     let a = c.args in
     let x = c.loop-from in
-    regions_left a.g (front a.g a.image.now) c.requires.tabled.slotted x.r x.invariant.0
+    regions_left a.image.now.g (front_of a.image.now) c.requires.tabled.slotted x.r x.invariant.0
     (omega (arith, x.invariant.3, c.taken-n.ensures, c.loop-from-test.true))
 
 pub loop-from-init : goal.loop-from-init
@@ -24,11 +25,11 @@ pub returns-then-not-windows_apart : goal.returns-then-not-windows_apart
 returns-then-not-windows_apart c =
     let a = c.args in
     let x = c.loop-from in
-    let t = front a.g a.image.now in
+    let t = front_of a.image.now in
     let to = c.read_starts-to in
-    let m = start_below a.g t c.requires.tabled.slotted (x.r + c.lesser.result) (omega (arith, c.lesser.ensures)) in
+    let m = start_below a.image.now.g t c.requires.tabled.slotted (x.r + c.min.result) (omega (arith, c.min.ensures)) in
     let twice = sym c.windows_apart.ensures ∙ c.if-not-windows_apart.true in
-    sym (apart_part a.g t 0 (taken a.g t) x.from to.result (omega arith) (omega (arith, to.ensures.0, m)) twice)
+    sym (apart_part a.image.now.g t 0 (taken a.image.now.g t) x.from to.result (omega arith) (omega (arith, to.ensures.0, m)) twice)
 
 pub loop-from-preserved : goal.loop-from-preserved
 loop-from-preserved c =
@@ -36,19 +37,19 @@ loop-from-preserved c =
     let x = c.loop-from in
     let to = c.read_starts-to in
     let once = sym c.windows_apart.ensures ∙ c.if-not-windows_apart.false in (
-      omega (arith, c.lesser.ensures),
+      omega (arith, c.min.ensures),
       to.auto.starts ∙ x.invariant.1,
       c.windows_apart.auto.seen ∙ x.invariant.2,
       to.ensures.0,
-      apart_join a.g (front a.g a.image.now) 0 x.from to.result x.invariant.4 once,
-      λ l. let aligned = x.invariant.5 (left (goal.at.loop-from-preserved c).After-lesser) in omega (arith, aligned, c.lesser.ensures),
+      apart_join a.image.now.g (front_of a.image.now) 0 x.from to.result x.invariant.4 once,
+      λ l. let aligned = x.invariant.5 (left (goal.at.loop-from-preserved c).After-min) in omega (arith, aligned, c.min.ensures),
     )
 
 pub returns : goal.returns
 returns c =
     let a = c.args in
     let x = c.loop-from in
-    let t = front a.g a.image.now in
-    let m = start_below a.g t c.requires.tabled.slotted x.r x.invariant.0 in
-    let d : x.from ≡ taken a.g t = omega (arith, m, x.invariant.3, c.taken-n.ensures) in
+    let t = front_of a.image.now in
+    let m = start_below a.image.now.g t c.requires.tabled.slotted x.r x.invariant.0 in
+    let d : x.from ≡ taken a.image.now.g t = omega (arith, m, x.invariant.3, c.taken-n.ensures) in
     sym (rw d at x.invariant.4)

@@ -1,7 +1,8 @@
 -- The starts stand, the slots from N up are empty, and every block below `b` stands in its slot.
 use Prim.Native.Nat.{◌<◌}
 use mathlib.Core.Path.{◌∙◌}
-use Rattle.paper.specs.Image.{front, taken}
+use Rattle.image.specs.Views.{front_of}
+use Rattle.paper.specs.Image.{taken}
 use Rattle.rules.specs.Facts.{Indexed}
 use Rattle.index.proofs.Filling.{starts_kept, spare_kept, block_more}
 use native.Mathlib.Omega.{arith}
@@ -9,22 +10,22 @@ use Rattle.index.proofs.put_blocks.Goals as goal
 use Rattle.index.proofs.put_blocks.Goals.{At-loop-b, In-loop-b}
 
 -- the block to put is taken
-inside : (c : In-loop-b) → let a = c.args in c.loop-b.b < taken a.g (front a.g a.image.now)
+inside : (c : In-loop-b) → let a = c.args in c.loop-b.b < taken a.image.now.g (front_of a.image.now)
 inside c = omega (arith, c.taken-b-end.ensures)
 
 -- the index is as long as it was
-indexed : (c : At-loop-b) → Indexed c.args.g c.loop-b.index
+indexed : (c : At-loop-b) → Indexed c.args.image.now.g c.loop-b.index
 indexed c = let p = c.requires in record { allowed = p.tabled.1.allowed; long = c.loop-b.invariant.1 ∙ p.tabled.1.long }
 
 pub loop-b-preserved : goal.loop-b-preserved
 loop-b-preserved c =
     let a = c.args in
     let p = c.requires in
-    let t = front a.g a.image.now in
+    let t = front_of a.image.now in
     let l = inside (goal.at.loop-b-preserved c).In-loop-b in (
       omega arith,
       c.put_block.auto.index ∙ c.loop-b.invariant.1,
-      rw c.put_block.ensures (starts_kept a.g t c.loop-b.index (indexed (goal.at.loop-b-preserved c).At-loop-b) p.rules p.tabled.0.bound c.loop-b.b l c.loop-b.invariant.2),
-      rw c.put_block.ensures (spare_kept a.g t c.loop-b.index (indexed (goal.at.loop-b-preserved c).At-loop-b) p.rules p.tabled.0.bound c.loop-b.b l c.loop-b.invariant.3),
-      rw c.put_block.ensures (block_more a.g t c.loop-b.index (indexed (goal.at.loop-b-preserved c).At-loop-b) p.rules p.tabled.0.bound c.loop-b.b l c.loop-b.invariant.4),
+      rw c.put_block.ensures (starts_kept a.image.now.g t c.loop-b.index (indexed (goal.at.loop-b-preserved c).At-loop-b) p.rules p.tabled.0.bound c.loop-b.b l c.loop-b.invariant.2),
+      rw c.put_block.ensures (spare_kept a.image.now.g t c.loop-b.index (indexed (goal.at.loop-b-preserved c).At-loop-b) p.rules p.tabled.0.bound c.loop-b.b l c.loop-b.invariant.3),
+      rw c.put_block.ensures (block_more a.image.now.g t c.loop-b.index (indexed (goal.at.loop-b-preserved c).At-loop-b) p.rules p.tabled.0.bound c.loop-b.b l c.loop-b.invariant.4),
     )

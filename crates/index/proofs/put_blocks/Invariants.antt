@@ -2,7 +2,7 @@
 use Prim.Native.Nat.{ℕ, ◌≤◌, ◌<◌}
 use mathlib.Core.Path.{◌≡◌}
 use lib.ListN.{length}
-use Rattle.paper.specs.Image.{front}
+use Rattle.image.specs.Views.{front_of}
 use Rattle.paper.specs.Index.{slot_in}
 use Rattle.rules.specs.Facts.{slot_for}
 use Rattle.index.specs.Witnessed.{Starts, Spare}
@@ -10,5 +10,5 @@ use Rattle.index.proofs.put_blocks.Given as goal
 
 abbrev pub invariant-loop-b : goal.invariant-loop-b
 invariant-loop-b l =
-    (l.b ≤ l.b-end) × (length l.index ≡ length l.initial.index) × Starts l.g (front l.g l.image) l.index × Spare l.g (front l.g l.image) l.index
-    × ((a : ℕ) → a < l.b → slot_in l.g l.index (slot_for l.g (front l.g l.image) a) ≡ a)
+    (l.b ≤ l.b-end) × (length l.index ≡ length l.initial.index) × Starts l.image.g (front_of l.image) l.index × Spare l.image.g (front_of l.image) l.index
+    × ((a : ℕ) → a < l.b → slot_in l.image.g l.index (slot_for l.image.g (front_of l.image) a) ≡ a)

@@ -2,12 +2,12 @@
 use Prim.Native.Nat.{◌≤◌}
 use mathlib.Core.Path.{◌≡◌}
 use lib.ListN.{length}
-use Rattle.paper.specs.Image.{front}
+use Rattle.image.specs.Views.{front_of}
 use Rattle.paper.specs.Index.{start_of}
 use Rattle.index.specs.Repeats.{StartsFrom}
 use Rattle.index.proofs.read_starts.Given as goal
 
 abbrev pub invariant-loop-r : goal.invariant-loop-r
 invariant-loop-r l =
-    (l.first.0 ≤ l.r) × (l.r ≤ l.r-end) × (length l.starts ≡ length l.initial.starts) × (l.sum ≡ start_of l.g (front l.g l.image) l.r)
-    × StartsFrom l.g (front l.g l.image) l.first.0 l.r l.starts
+    (l.first.0 ≤ l.r) × (l.r ≤ l.r-end) × (length l.starts ≡ length l.initial.starts) × (l.sum ≡ start_of l.image.g (front_of l.image) l.r)
+    × StartsFrom l.image.g (front_of l.image) l.first.0 l.r l.starts

@@ -2,7 +2,8 @@
 use Prim.Native.Nat.{◌<◌}
 use mathlib.Core.Path.{refl, sym, ◌∙◌}
 use Rattle.laws.proofs.Folds.{sum_mono}
-use Rattle.paper.specs.Image.{front, need_of}
+use Rattle.image.specs.Views.{front_of}
+use Rattle.paper.specs.Image.{need_of}
 use Rattle.index.proofs.Slots.{start_below}
 use Rattle.index.proofs.Repeats.{apart_none, apart_join, apart_part}
 use native.Mathlib.Omega.{arith}
@@ -15,13 +16,13 @@ small c =
     let a = c.args in
     let T = c.requires.tabled.0 in
     let F = c.requires.tabled.1 in
-    omega (arith, c.requires.all.0.high, start_below a.g (front a.g a.image.now) T.slotted a.w.last.0 (omega (arith, F.whole, F.order)), T.bound, T.readable.allowed.blocks_most)
+    omega (arith, c.requires.all.0.high, start_below a.image.now.g (front_of a.image.now) T.slotted a.w.last.0 (omega (arith, F.whole, F.order)), T.bound, T.readable.allowed.blocks_most)
 
 pub loop-from-init : goal.loop-from-init
 loop-from-init c =
     let a = c.args in
     let A = c.requires.all.0 in
-    let m = sum_mono (need_of a.g (front a.g a.image.now)) a.w.first.0 a.w.last.0 (omega (arith, c.requires.tabled.1.whole)) in
+    let m = sum_mono (need_of a.image.now.g (front_of a.image.now)) a.w.first.0 a.w.last.0 (omega (arith, c.requires.tabled.1.whole)) in
     (omega arith, omega (arith, A.low, A.high, m), refl, apart_none _ _ _, λ l s lo hi. absurd (omega arith))
 
 pub overflow_mul-from : goal.overflow_mul-from
@@ -30,19 +31,19 @@ overflow_mul-from c = omega (arith, small (goal.at.overflow_mul-from c).Start)
 pub returns-then-not-window_apart : goal.returns-then-not-window_apart
 returns-then-not-window_apart c =
     let a = c.args in
-    let to = c.lesser-to in
+    let to = c.min-to in
     let twice = sym c.window_apart.ensures ∙ c.if-not-window_apart.true in
-    sym (apart_part a.g (front a.g a.image.now) a.w.from a.w.to c.loop-from.from to.result (omega arith) (omega (arith, to.ensures)) twice)
+    sym (apart_part a.image.now.g (front_of a.image.now) a.w.from a.w.to c.loop-from.from to.result (omega arith) (omega (arith, to.ensures)) twice)
 
 pub loop-from-preserved : goal.loop-from-preserved
 loop-from-preserved c =
     let a = c.args in
     let x = c.loop-from in
-    let to = c.lesser-to in
+    let to = c.min-to in
     let once = sym c.window_apart.ensures ∙ c.if-not-window_apart.false in (
       omega (arith, to.ensures),
       omega (arith, to.ensures),
       c.window_apart.auto.seen ∙ x.invariant.2,
-      apart_join a.g (front a.g a.image.now) a.w.from x.from to.result x.invariant.3 once,
+      apart_join a.image.now.g (front_of a.image.now) a.w.from x.from to.result x.invariant.3 once,
       λ l s lo hi. omega (arith, to.ensures),
     )

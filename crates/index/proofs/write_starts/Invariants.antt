@@ -2,11 +2,11 @@
 use Prim.Native.Nat.{ℕ, ◌≤◌, ◌<◌}
 use mathlib.Core.Path.{◌≡◌}
 use lib.ListN.{length}
-use Rattle.paper.specs.Image.{front}
+use Rattle.image.specs.Views.{front_of}
 use Rattle.paper.specs.Index.{start_of, start_in}
 use Rattle.index.proofs.write_starts.Given as goal
 
 abbrev pub invariant-loop-r : goal.invariant-loop-r
 invariant-loop-r l =
-    (l.r ≤ l.r-end) × (length l.index ≡ length l.initial.index) × (l.start ≡ start_of l.g (front l.g l.image) l.r)
-    × ((q : ℕ) → q < l.r → start_in l.g l.index q ≡ start_of l.g (front l.g l.image) q)
+    (l.r ≤ l.r-end) × (length l.index ≡ length l.initial.index) × (l.start ≡ start_of l.image.g (front_of l.image) l.r)
+    × ((q : ℕ) → q < l.r → start_in l.image.g l.index q ≡ start_of l.image.g (front_of l.image) q)
