@@ -20,6 +20,7 @@ use paper::{Block, Book, Edition, Geometry, Pages, Refusal, Region};
 // ---- shared refusals. What passes them is given back as a value that says so
 
 // 1, 3, 4.
+#[tactic(auto, unfolding(rules::specs::Lines::head_no, paper::specs::Refusals::first))]
 pub fn head<'a>(g: Geometry, image: &'a [u8]) -> Result<Image<'a>, Refusal>
     ensures number { number_in result ≡ head_no g image.now }
     ensures image { IfOk result (λ i. IsImage g image.now i) }
@@ -38,6 +39,7 @@ pub fn head<'a>(g: Geometry, image: &'a [u8]) -> Result<Image<'a>, Refusal>
 }
 
 // 1, 2, 3.
+#[tactic(auto, unfolding(rules::specs::Lines::lent_no, paper::specs::Refusals::first))]
 pub fn lent<'a, 'b>(g: Geometry, image: &'a [u8], index: &'b [u8]) -> Result<Lent<'a, 'b>, Refusal>
     ensures number { number_in result ≡ lent_no g image.now index.now }
     ensures lent { IfOk result (λ l. IsLent g image.now index.now l) }
@@ -58,7 +60,11 @@ pub fn lent<'a, 'b>(g: Geometry, image: &'a [u8], index: &'b [u8]) -> Result<Len
 }
 
 // 1, 2, 3, 4.
-pub fn indexed_head<'a, 'b>(g: Geometry, image: &'a [u8], index: &'b [u8]) -> Result<Lent<'a, 'b>, Refusal>
+pub fn indexed_head<'a, 'b>(
+    g: Geometry,
+    image: &'a [u8],
+    index: &'b [u8],
+) -> Result<Lent<'a, 'b>, Refusal>
     ensures number { number_in result ≡ indexed_head_no g image.now index.now }
     ensures lent { IfOk result (λ l. IsLent g image.now index.now l) }
 {
@@ -91,7 +97,11 @@ fn whole<'a>(g: Geometry, image: &'a [u8]) -> Result<Image<'a>, Refusal>
 }
 
 // 1, 2, 3, 4, 5.
-pub fn entered<'a, 'b>(g: Geometry, image: &'a [u8], index: &'b [u8]) -> Result<Lent<'a, 'b>, Refusal>
+pub fn entered<'a, 'b>(
+    g: Geometry,
+    image: &'a [u8],
+    index: &'b [u8],
+) -> Result<Lent<'a, 'b>, Refusal>
     ensures number { number_in result ≡ entered_no g image.now index.now }
     ensures lent { IfOk result (λ l. IsLent g image.now index.now l) }
 {
@@ -102,16 +112,12 @@ pub fn entered<'a, 'b>(g: Geometry, image: &'a [u8], index: &'b [u8]) -> Result<
     Ok(lent)
 }
 
+#[tactic(auto, unfolding(paper::specs::Refusals::usable))]
 pub fn usable(image: &Image<'_>, region: Region) -> bool
     ensures { result ≡ usable image.now.g (front_of image.now) region.0 }
 {
-    if 0 < region.0 && region.0 < paper::FIXED_REGIONS {
-        return false;
-    }
-    if image.g.no_region() <= region {
-        return false;
-    }
-    image.is_open(region)
+    let callable = region == paper::ANONYMOUS || paper::FIXED_REGIONS <= region.0;
+    callable && region < image.g.no_region() && image.is_open(region)
 }
 
 // The region's book is the one of that edition.
@@ -123,6 +129,7 @@ pub fn is_edition(image: &Image<'_>, region: Region, edition: Edition) -> bool
 }
 
 // 8, 18.
+#[tactic(auto, unfolding(rules::specs::Lines::name_no, paper::specs::Refusals::first))]
 pub fn name_book(image: &Image<'_>, book: Book) -> Result<(), Refusal>
     ensures { number_in result ≡ name_no image.now.g image.now.bytes.now book.region.0 book.edition.0 }
 {

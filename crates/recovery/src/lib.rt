@@ -17,27 +17,19 @@ use index::Lent;
 use paper::{Geometry, Refusal};
 
 // Rules a to e, but for the last sentence of d.
+#[tactic(auto, unfolding(crate::specs::Refused::loosely))]
 fn loosely(image: &Image<'_>) -> bool
     requires image_bound { taken image.now.g (front_of image.now) ≤ image.now.g.blocks }
     ensures { result ≡ loosely image.now.g (front_of image.now) }
 {
-    if !image.regions_in_order() {
-        return false;
-    }
-    if !image.all_named() {
-        return false;
-    }
-    image.rule_e()
+    image.regions_in_order() && image.all_named() && image.rule_e()
 }
 
 fn in_order(image: &Image<'_>) -> bool
     requires image_bound { taken image.now.g (front_of image.now) ≤ image.now.g.blocks }
     ensures { result ≡ in_order image.now.g (front_of image.now) }
 {
-    if !loosely(image) {
-        return false;
-    }
-    index::alone_all(image)
+    loosely(image) && index::alone_all(image)
 }
 
 // 1 to 4, 16, 5, 6.
@@ -60,20 +52,12 @@ fn recoverable<'a>(g: Geometry, image: &'a [u8], index: &[u8]) -> Result<Image<'
 
 // Whether the tables keep the rules and the index is what recovery would give: the index is its own witness. Its starts tell the needs and
 // their sum, so that each book fits, and its slots that no two blocks name the same pair.
+#[tactic(auto, unfolding(crate::specs::Refused::vouched))]
 fn vouched(lent: &Lent<'_, '_>) -> bool
     requires image_bound { taken lent.now.image.g (front_of lent.now.image) ≤ lent.now.image.g.blocks }
     ensures { result ≡ vouched lent.now.image.g (front_of lent.now.image) lent.now.index.bytes.now }
 {
-    if !lent.image.rule_a() {
-        return false;
-    }
-    if !lent.image.reclaimed_whole() {
-        return false;
-    }
-    if !lent.image.rule_e() {
-        return false;
-    }
-    lent.witnessed()
+    lent.image.rule_a() && lent.image.reclaimed_whole() && lent.image.rule_e() && lent.witnessed()
 }
 
 // 1 to 7. Only where the index is not its own witness are the rules asked of the tables alone, to tell 6 from 7.

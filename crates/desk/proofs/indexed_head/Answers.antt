@@ -1,30 +1,32 @@
 -- `desk::indexed_head` meets its contract: a law for each return.
-use mathlib.Core.Path.{sym, ◌∙◌}
-use Rattle.paper.specs.Geometry.{Allowed}
-use Rattle.paper.proofs.Arithmetic.{allowed_facts}
-use Rattle.rules.proofs.Lines.{indexed_head_1, indexed_head_2, indexed_head_on}
+use Rattle.std.proofs.Common.{ℕ, List, [], ◌∷◌, ◌≡◌, ◌≢◌, refl, sym, ◌∙◌}
+use Rattle.paper.specs.declared.Geometry.{Geometry}
+use Rattle.paper.specs.Refusals.{no1, no2, no3, no4}
+use Rattle.rules.specs.Lines.{lent_no, indexed_head_no}
+use Rattle.rules.proofs.First.{first_stop}
+use Rattle.rules.proofs.Lines.{lent_shown, indexed_head_on, head_4, head_0}
+use Rattle.desk.proofs.Refusing.{number_passed}
 use Rattle.desk.proofs.indexed_head.Goals as goal
-use Rattle.desk.proofs.indexed_head.Goals.{Else-not-allowed}
 
--- 1 does not apply
-allows : (c : Else-not-allowed) → Allowed c.args.g
-allows c = allowed_facts _ (sym c.allowed.ensures ∙ c.if-not-allowed.false)
+-- 1 to 3 begin the line
+indexed_head_stop : (g : Geometry) (image index : List ℕ) (k : ℕ) → k ≡ lent_no g image index → k ≢ 0 → indexed_head_no g image index ≡ k
+unfolding lent_no indexed_head_no
+indexed_head_stop g image index k e ne =
+    first_stop (no1 g image index ∷ no2 g image index ∷ no3 g image index ∷ []) (no4 g image index ∷ []) refl k (sym e) ne
 
-pub returns-then-not-allowed : goal.returns-then-not-allowed
-returns-then-not-allowed c =
-    let a = c.args in
-    sym (indexed_head_1 a.g a.image.now a.index.now (sym c.allowed.ensures ∙ c.if-not-allowed.true))
+pub returns-in_err-lent-clause-number : goal.returns-in_err-lent-clause-number
+returns-in_err-lent-clause-number c = number_passed _ _ c.from_residual.ensures.1 c.in_err-lent.ensures.number (indexed_head_stop _ _ _)
 
-pub index_bytes-requires : goal.index_bytes-requires
-index_bytes-requires c = allows (goal.at.index_bytes-requires c).Else-not-allowed
+pub returns-then-not-header_right-clause-number : goal.returns-then-not-header_right-clause-number
+returns-then-not-header_right-clause-number c =
+    let I = c.in_ok-lent.ensures.lent.of_image in
+    let L = lent_shown _ _ _ (sym c.in_ok-lent.ensures.number) in
+    let wrong = sym (rw (I.geometry, I.lent) at c.header_right.ensures) ∙ c.if-not-header_right.true in
+    sym (indexed_head_on _ _ _ L.0.allowed L.1 ∙ head_4 _ _ L.0 wrong)
 
-pub returns-then-index-index_bytes : goal.returns-then-index-index_bytes
-returns-then-index-index_bytes c =
-    let a = c.args in
-    sym (indexed_head_2 a.g a.image.now a.index.now (allows (goal.at.returns-then-index-index_bytes c).Else-not-allowed) (λ e. c.if-index-index_bytes.true (e ∙ sym c.index_bytes.ensures)))
-
-pub returns : goal.returns
-returns c =
-    let a = c.args in
-    let long = c.if-index-index_bytes.false ∙ c.index_bytes.ensures in
-    c.head.ensures ∙ sym (indexed_head_on a.g a.image.now a.index.now (allows (goal.at.returns c).Else-not-allowed) long)
+pub returns-clause-number : goal.returns-clause-number
+returns-clause-number c =
+    let I = c.in_ok-lent.ensures.lent.of_image in
+    let L = lent_shown _ _ _ (sym c.in_ok-lent.ensures.number) in
+    let right = sym (rw (I.geometry, I.lent) at c.header_right.ensures) ∙ c.if-not-header_right.false in
+    sym (indexed_head_on _ _ _ L.0.allowed L.1 ∙ head_0 _ _ L.0 right)
