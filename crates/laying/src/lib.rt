@@ -1,9 +1,9 @@
 // The reserve of a new image, empty or of one book; and the call that lays an empty one.
 #![tactic(auto)]
 
-ghost use Rattle.std.specs.Prelude.{◌≡◌, [], ◌+◌, ◌^◌, ◌≤◌, ◌<◌, length};
+ghost use Rattle.std.specs.Prelude.{◌≡◌, [], ◌≤◌, length};
 ghost use Rattle.laws.specs.Folds.{join_below};
-ghost use Rattle.laws.specs.Bytes.{splice, put};
+ghost use Rattle.laws.specs.Bytes.{splice};
 ghost use Rattle.paper.specs.Geometry.{header_bytes, fixed_regions, Allowed, no_region, need, size_at};
 ghost use Rattle.paper.specs.Image.{not_open, front, blanked, coded, size_width, set_pages, written_header, entry_row, size_row};
 ghost use Rattle.paper.specs.Index.{empty_index};
@@ -20,6 +20,7 @@ use paper::{Block, Geometry, Pages, Position, Refusal, Region, Version};
 // ---- header and tables
 
 // C is the first region that can be opened.
+#[tactic(auto, using(rules::proofs::Written::header_put))]
 fn write_header(image: &mut [u8], version: Version, taken: u16)
     requires { header_bytes ≤ length image.old }
     ensures { image.new ≡ splice 0 (written_header (version_number version) taken fixed_regions) image.old }
@@ -29,14 +30,6 @@ fn write_header(image: &mut [u8], version: Version, taken: u16)
     taken.write(image, paper::TAKEN_AT);
     (paper::FIXED_REGIONS as u16).write(image, paper::COUNTER_AT);
     0u32.write(image, paper::BLANK_AT);
-}
-
-fn write_entry(image: &mut [u8], at: usize, r: Region, p: Position)
-    requires { (at + 4 ≤ length image.old) × (r.0 < 2 ^ 16) × (p.0 < 2 ^ 16) }
-    ensures { image.new ≡ put 2 (at + 2) p.0 (put 2 at r.0 image.old) }
-{
-    (r.0 as u16).write(image, at);
-    (p.0 as u16).write(image, at + 2);
 }
 
 // Of the blocks taken, all the old anonymous book's, the last stands first. A block that is not taken holds region E-1, position 0.
@@ -66,16 +59,14 @@ fn write_blocks(g: Geometry, image: &mut [u8], taken: u16)
 {
     for i in 0..g.blocks {
         let b = Block(i as u16);
-        write_entry(
-            image,
-            g.entry_at(b),
-            new_owner(g, taken, b),
-            new_place(taken, b),
-        );
+        let owner = new_owner(g, taken, b);
+        let place = new_place(taken, b);
+        image::set_entry(g, image, b, owner, place);
     }
 }
 
 // What stands in the entry of a region that is not open: all ones in the bytes that the version has for the pages, and edition 0.
+#[tactic(auto, using(rules::proofs::Cells::coded_not_open), unfolding(paper::specs::Image::size_width))]
 fn not_open(version: Version) -> u64
     ensures { result ≡ coded (size_width (version_number version)) not_open }
 {
@@ -86,6 +77,7 @@ fn not_open(version: Version) -> u64
 }
 
 // Regions 0 to 15 are open and empty, and no other is open.
+#[tactic(auto, using(rules::proofs::Cells::coded_pages), unfolding(paper::specs::Calls::laid_size))]
 fn laid_size(version: Version, r: Region) -> u64
     ensures { result ≡ coded (size_width (version_number version)) (laid_size r.0) }
 {
@@ -96,6 +88,7 @@ fn laid_size(version: Version, r: Region) -> u64
 }
 
 // The old anonymous book has so many pages.
+#[tactic(auto, using(rules::proofs::Cells::coded_pages), unfolding(paper::specs::Move::moved_size))]
 fn new_size(version: Version, r: Region, pages: Pages) -> u64
     ensures { result ≡ coded (size_width (version_number version)) (moved_size pages.0 r.0) }
 {
@@ -129,6 +122,7 @@ fn write_tables(g: Geometry, version: Version, image: &mut [u8], pages: Pages)
 // ---- the rest of the reserve
 
 // Zeros between the tables and the end of the reserve.
+#[tactic(auto, using(rules::proofs::Parts::zeros_written))]
 fn blank_unused(g: Geometry, image: &mut [u8])
     requires { Readable g image.old }
     ensures { image.new ≡ blanked g image.old }

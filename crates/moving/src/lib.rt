@@ -37,7 +37,12 @@ fn move_block(g: Geometry, image: &mut [u8], pages: Pages)
 }
 
 // The first block is copied before its place becomes the reserve: cut short in between, the old memory is still whole.
-pub fn move_over(g: Geometry, image: &mut [u8], index: &mut [u8], pages: Pages) -> Result<(), Refusal>
+pub fn move_over(
+    g: Geometry,
+    image: &mut [u8],
+    index: &mut [u8],
+    pages: Pages,
+) -> Result<(), Refusal>
     ensures { gives (answered plain result) [] (lent image.new index.new) ≡ move_outcome g pages.0 (lent image.old index.old) }
 {
     movable(g, image, index, pages)?;
