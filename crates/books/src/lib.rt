@@ -57,6 +57,7 @@ pub fn open(g: Geometry, image: &mut [u8], index: &mut [u8]) -> Result<Book, Ref
 }
 
 // Release: appends the book's blocks to region 1 in position order, sets "not open" and raises the edition.
+#[tactic(auto, using(crate::proofs::Left::zero_refused))]
 pub fn release(g: Geometry, image: &mut [u8], index: &mut [u8], book: Book) -> Result<(), Refusal>
     ensures { gives (answered plain result) [] (lent image.new index.new) ≡ outcome g (release book.region.0 book.edition.0) (lent image.old index.old) }
 {

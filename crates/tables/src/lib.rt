@@ -91,7 +91,10 @@ pub fn grant_blocks(image: &mut [u8], index: &Index<'_>, region: Region, count: 
     requires by_index { (j : ℕ) → j < count → Grantable index.now.g index.now.bytes.now region.0 (stock_of index.now.g (front index.now.g image.old) region.0) j }
     ensures { image.new ≡ fronted index.now.g (steps count (placed index.now.g index.now.bytes.now region.0 (stock_of index.now.g (front index.now.g image.old) region.0)) (front index.now.g image.old)) image.old }
 {
-    let before = Image { g: index.g, bytes: image };
+    let before = Image {
+        g: index.g,
+        bytes: image,
+    };
     let s = take_stock(&before, region);
     for j in 0..count {
         grant(image, index, region, s, j);

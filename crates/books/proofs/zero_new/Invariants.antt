@@ -9,10 +9,11 @@ use Rattle.books.proofs.zero_new.Given as goal
 
 abbrev pub invariant-loop-left : goal.invariant-loop-left
 invariant-loop-left l =
-    Walk l.g (offset_of l.g l.initial.at) l.n l.at l.left
+    let g = l.index.g in
+    Walk g (offset_of g l.initial.at) l.n l.at l.left
     × (length l.image ≡ length l.initial.image)
     × (l.image
-    ≡ written_to l.g (block_after l.g l.index l.region.0 l.s) (offset_of l.g l.initial.at) (zeros l.n) l.initial.image l.at.position.0)
+    ≡ written_to g (block_after g l.index.bytes.now l.region.0 l.s) (offset_of g l.initial.at) (zeros l.n) l.initial.image l.at.position.0)
 
 abbrev pub decreases-loop-left : goal.decreases-loop-left
 decreases-loop-left l = l.left
