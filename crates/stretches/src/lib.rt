@@ -69,6 +69,7 @@ pub fn first_stretch(index: &Index<'_>, r: Region, spot: Spot, n: usize) -> Stre
 // ---- the check
 
 // Position p of region r, whose block numbers start at `start`.
+#[tactic(auto, unfolding(paper::specs::Refusals::right_at))]
 fn right_at(lent: &Lent<'_, '_>, r: Region, start: u16, p: Position) -> bool
     requires entered { Entered lent.now.image.g lent.now.image.bytes.now lent.now.index.bytes.now }
     requires start_value { (start ≡ start_in lent.now.image.g lent.now.index.bytes.now r.0) × (p.0 < 2 ^ 40) }
@@ -80,13 +81,7 @@ fn right_at(lent: &Lent<'_, '_>, r: Region, start: u16, p: Position) -> bool
         return false;
     }
     let b = lent.index.slot(s);
-    if image.taken() <= b.0 {
-        return false;
-    }
-    if image.owner(b) != r {
-        return false;
-    }
-    image.place(b) == p
+    b.0 < image.taken() && image.owner(b) == r && image.place(b) == p
 }
 
 // Each position that n bytes from the spot on touch has its block in the index.

@@ -5,6 +5,6 @@ use Rattle.stretches.proofs.stretch_at.Goals as goal
 
 pub overflow_add-at : goal.overflow_add-at
 overflow_add-at c =
-    let A = c.requires.0.allowed in
-    let d = data_bound c.args.g c.slot_in-b.result.0 A (omega arith) in
-    omega (arith, block_bound c.args.g A)
+    let A = c.args.index.now.indexed.allowed in
+    let d = data_bound c.args.index.now.g c.slot-b.result.0 A (omega arith) in
+    omega (arith, block_bound c.args.index.now.g A)
