@@ -151,10 +151,7 @@ impl Lent<'_, '_> {
     {
         let start = self.index.start(r) as u64;
         let next = self.index.start(Region(r.0 + 1)) as u64;
-        if next < start {
-            return false;
-        }
-        self.image.is_need(r, next - start)
+        start <= next && self.image.is_need(r, next - start)
     }
 
     // The starts up to that of region `end`.
@@ -171,10 +168,7 @@ impl Lent<'_, '_> {
         ensures { result ≡ starts_right self.now.image.g (front_of self.now.image) self.now.index.bytes.now }
     {
         let end = self.image.given_out();
-        if !self.steps_right(end) {
-            return false;
-        }
-        self.index.ends_right(end, self.image.taken())
+        self.steps_right(end) && self.index.ends_right(end, self.image.taken())
     }
 
     // The starts tell what a region needs.
@@ -213,13 +207,7 @@ impl Lent<'_, '_> {
         requires high { High self.now.image.g (front_of self.now.image) × (taken self.now.image.g (front_of self.now.image) ≤ self.now.image.g.blocks) }
         ensures { result ≡ witnessed self.now.image.g (front_of self.now.image) self.now.index.bytes.now }
     {
-        if !self.starts_right() {
-            return false;
-        }
-        if !self.blocks_right() {
-            return false;
-        }
-        self.spare_right()
+        self.starts_right() && self.blocks_right() && self.spare_right()
     }
 }
 
@@ -231,7 +219,7 @@ const REGIONS_AT_ONCE: usize = 6144;
 
 const SLOTS_AT_ONCE: usize = 32768;
 
-const MARK_BYTES: usize = 4096;
+const MARK_BYTES: usize = SLOTS_AT_ONCE / 8;
 
 // Regions from `first` up to `last`, and of their slots those from `from` up to `to`.
 #[derive(Clone, Copy)]
@@ -305,7 +293,7 @@ fn mark(seen: &mut [u8], s: usize, one: u8) -> bool
     before & bit == 0
 }
 
-// One pass over the blocks for a window that `seen` has bits for.
+// One pass over the blocks for a window that `seen` has bits for. Not by `all`, since each block changes what the next is held against.
 fn window_apart(image: &Image<'_>, w: Window, starts: &[u16], seen: &mut [u8]) -> bool
     requires tabled { Tabled image.now.g image.now.bytes.now × Framed image.now.g (front_of image.now) w starts.now }
     requires run { Run image.now.g (front_of image.now) w × (length seen.old ≡ mark_bytes) }
@@ -322,7 +310,7 @@ fn window_apart(image: &Image<'_>, w: Window, starts: &[u16], seen: &mut [u8]) -
     true
 }
 
-// All slots of the window's regions, run by run.
+// All slots of the window's regions, run by run. It steps by hand: a range over the runs would have one pass too many where no slot is left.
 fn windows_apart(image: &Image<'_>, w: Window, starts: &[u16], seen: &mut [u8]) -> bool
     requires tabled { Tabled image.now.g image.now.bytes.now × Framed image.now.g (front_of image.now) w starts.now }
     requires all { All image.now.g (front_of image.now) w × (length seen.old ≡ mark_bytes) }
@@ -341,6 +329,7 @@ fn windows_apart(image: &Image<'_>, w: Window, starts: &[u16], seen: &mut [u8]) 
 }
 
 // All regions, by as many as `starts` has room for, until no slot is left. A pass for regions that hold no block is left out.
+// It steps by hand: a range over the regions would read those too that come after the last slot.
 fn all_apart(image: &Image<'_>, starts: &mut [u16], seen: &mut [u8]) -> bool
     requires tabled { Tabled image.now.g image.now.bytes.now }
     requires starts_len { (length starts.old ≡ regions_at_once) × (length seen.old ≡ mark_bytes) }
