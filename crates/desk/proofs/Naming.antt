@@ -1,5 +1,5 @@
 -- 8 and 18, the checks of a book's name: which of them refuses, and that each line with them refuses as they do.
-use Rattle.std.specs.Prelude.{ℕ, ◌≡◌, ◌≢◌, Bool, true, false, List, [], ◌∷◌}
+use Rattle.std.specs.Prelude.{ℕ, ◌≡◌, ◌≢◌, Bool, true, false, List, []}
 use Rattle.std.proofs.Common.{refl, sym, ◌∙◌, arith}
 use native.Mathlib.Decide.{ℕ_discrete}
 use borrow.Author.Tests.{eqb-true, eq-eqb, not-false}
@@ -7,10 +7,10 @@ use Rattle.laws.proofs.Tests.{clash, not_of_true}
 use Rattle.paper.specs.declared.Geometry.{Geometry}
 use Rattle.paper.specs.Image.{front, edition_of}
 use Rattle.paper.specs.Calls.{grow, release}
-use Rattle.paper.specs.Refusals.{usable, no8, no18, no6of, naming, refusal}
+use Rattle.paper.specs.Refusals.{usable, no8, no18, refusal}
 use Rattle.rules.specs.Facts.{IsBook, Ordered}
-use Rattle.rules.specs.Lines.{name_no, book_no}
-use Rattle.rules.proofs.First.{Passes, first_nil, pass, halt, shown, first_stop}
+use Rattle.rules.specs.Lines.{name_no}
+use Rattle.rules.proofs.First.{Passes, first_nil, pass, halt, shown}
 use Rattle.rules.proofs.Lines.{grow_8, grow_18, release_8, release_18}
 
 module _ (g : Geometry) (image : List ℕ) (r d : ℕ) where
@@ -37,11 +37,6 @@ module _ (g : Geometry) (image : List ℕ) (r d : ℕ) where
   pub name_0 : IsBook g (front g image) r d → name_no g image r d ≡ 0
   unfolding name_no
   name_0 b = pass ask8 _ b.usable ∙ pass ask18 _ b.edition ∙ first_nil
-
-  -- a line that begins with them
-  pub book_stop : (k : ℕ) → k ≡ name_no g image r d → k ≢ 0 → book_no g image r d ≡ k
-  unfolding name_no book_no
-  book_stop k e ne = first_stop (naming g image [] r d []) (no6of g image [] r ∷ []) refl k (sym e) ne
 
   -- the two, where a line answers them after others
   module _ {y : ℕ} (at_8 : usable g (front g image) r ≡ false → y ≡ 8) (at_18 : usable g (front g image) r ≡ true → edition_of g (front g image) r ≢ d → y ≡ 18) where

@@ -60,6 +60,7 @@ pub fn lent<'a, 'b>(g: Geometry, image: &'a [u8], index: &'b [u8]) -> Result<Len
 }
 
 // 1, 2, 3, 4.
+#[tactic(auto, unfolding(rules::specs::Lines::indexed_head_no, rules::specs::Lines::lent_no, paper::specs::Refusals::first))]
 pub fn indexed_head<'a, 'b>(
     g: Geometry,
     image: &'a [u8],
@@ -85,6 +86,7 @@ pub fn tail_missing(image: &Image<'_>) -> bool
 }
 
 // 1, 3, 4, 5.
+#[tactic(auto, unfolding(rules::specs::Lines::whole_no, rules::specs::Lines::head_no, paper::specs::Refusals::first))]
 fn whole<'a>(g: Geometry, image: &'a [u8]) -> Result<Image<'a>, Refusal>
     ensures number { number_in result ≡ whole_no g image.now }
     ensures image { IfOk result (λ i. IsImage g image.now i) }
@@ -97,6 +99,7 @@ fn whole<'a>(g: Geometry, image: &'a [u8]) -> Result<Image<'a>, Refusal>
 }
 
 // 1, 2, 3, 4, 5.
+#[tactic(auto, unfolding(rules::specs::Lines::entered_no, rules::specs::Lines::indexed_head_no, paper::specs::Refusals::first))]
 pub fn entered<'a, 'b>(
     g: Geometry,
     image: &'a [u8],
@@ -143,6 +146,7 @@ pub fn name_book(image: &Image<'_>, book: Book) -> Result<(), Refusal>
 }
 
 // 8, 18, and 6 for this book alone.
+#[tactic(auto, unfolding(rules::specs::Lines::book_no, rules::specs::Lines::name_no, paper::specs::Refusals::first))]
 pub fn check_book(image: &Image<'_>, book: Book) -> Result<(), Refusal>
     ensures { number_in result ≡ book_no image.now.g image.now.bytes.now book.region.0 book.edition.0 }
 {
@@ -155,6 +159,7 @@ pub fn check_book(image: &Image<'_>, book: Book) -> Result<(), Refusal>
 
 // ---- Size: answers the page count; takes no index
 
+#[tactic(auto, unfolding(rules::specs::Lines::whole_no, rules::specs::Lines::book_no, paper::specs::Refusals::first, paper::specs::Refusals::checks, paper::specs::Outcomes::outcome, paper::specs::Outcomes::accepted))]
 pub fn size(g: Geometry, image: &[u8], book: Book) -> Result<Pages, Refusal>
     ensures { gives (answered counted result) [] (lent image.now []) ≡ outcome g (size book.region.0 book.edition.0) (lent image.now []) }
 {

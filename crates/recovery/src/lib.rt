@@ -33,6 +33,7 @@ fn in_order(image: &Image<'_>) -> bool
 }
 
 // 1 to 4, 16, 5, 6.
+#[tactic(auto, unfolding(paper::specs::Refusals::checks, paper::specs::Refusals::first, rules::specs::Lines::indexed_head_no))]
 fn recoverable<'a>(g: Geometry, image: &'a [u8], index: &[u8]) -> Result<Image<'a>, Refusal>
     ensures number { number_in result ≡ refusal g image.now index.now recover }
     ensures image { IfOk result (λ i. IsImage g image.now i) }
@@ -61,6 +62,7 @@ fn vouched(lent: &Lent<'_, '_>) -> bool
 }
 
 // 1 to 7. Only where the index is not its own witness are the rules asked of the tables alone, to tell 6 from 7.
+#[tactic(auto, unfolding(rules::specs::Lines::ordered_no, rules::specs::Lines::entered_no, paper::specs::Refusals::first))]
 pub fn ordered(g: Geometry, image: &[u8], index: &[u8]) -> Result<(), Refusal>
     ensures { number_in result ≡ ordered_no g image.now index.now }
 {
@@ -75,6 +77,7 @@ pub fn ordered(g: Geometry, image: &[u8], index: &[u8]) -> Result<(), Refusal>
 }
 
 // Recover: writes the whole index from the image.
+#[tactic(auto, unfolding(paper::specs::Outcomes::outcome, paper::specs::Outcomes::accepted))]
 pub fn recover(g: Geometry, image: &[u8], index: &mut [u8]) -> Result<(), Refusal>
     ensures { gives (answered plain result) [] (lent image.now index.new) ≡ outcome g recover (lent image.now index.old) }
 {

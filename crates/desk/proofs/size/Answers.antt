@@ -1,30 +1,10 @@
--- `desk::size` meets its contract: refused by the image, refused by the book, or done.
-use Rattle.std.proofs.Common.{[], sym, ◌∙◌, arith}
-use Rattle.paper.specs.Outcomes.{lent}
-use Rattle.rules.proofs.Lines.{whole_shown, book_shown, size_stop, size_on, size_done}
-use Rattle.desk.proofs.Refusing.{outcome_passed, outcome_left}
+-- `desk::size` meets its contract.
+use Rattle.std.proofs.Common.{sym, arith}
 use Rattle.rules.proofs.Usable.{usable_facts}
+use Rattle.rules.proofs.Lines.{book_shown}
 use Rattle.desk.proofs.size.Goals as goal
 
-pub returns-in_err-image : goal.returns-in_err-image
-returns-in_err-image c = outcome_passed _ _ _ _ _ _ c.from_residual.ensures.1 c.in_err-image.ensures.number (size_stop _ _ _ _ _)
-
-pub returns-in_err-check_book : goal.returns-in_err-check_book
-returns-in_err-check_book c =
-    let I = c.in_ok-image.ensures.image in
-    let W = whole_shown _ _ (sym c.in_ok-image.ensures.number) in
-    outcome_left _ _ _ _ _ _ c.from_residual-in_err-check_book.ensures.1 (size_on _ _ _ _ _ W ∙ sym (rw (I.geometry, I.lent) at c.in_err-check_book.ensures))
-
--- the book's page count is read from the image as it was lent
 pub pages-requires : goal.pages-requires
 pages-requires c =
     let b = book_shown _ _ _ _ (sym c.in_ok-check_book.ensures) in
     record { r_lt_entries = omega (arith, (usable_facts _ _ _ b.0.usable).1) }
-
-pub returns : goal.returns
-returns c =
-    let a = c.args in
-    let I = c.in_ok-image.ensures.image in
-    let W = whole_shown _ _ (sym c.in_ok-image.ensures.number) in
-    let k = size_on a.g a.image.now [] a.book.region.0 a.book.edition.0 W ∙ sym (rw (I.geometry, I.lent) at c.in_ok-check_book.ensures) in
-    rw (c.pages.ensures, I.geometry, I.lent) (sym (size_done a.g (lent a.image.now []) a.book.region.0 a.book.edition.0 k))

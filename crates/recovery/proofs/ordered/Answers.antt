@@ -1,12 +1,8 @@
 -- `recovery::ordered` meets its contract: a law for each return.
 use Rattle.std.proofs.Common.{sym, ◌∙◌}
-use Rattle.rules.proofs.Lines.{entered_shown, ordered_stop, ordered_6}
-use Rattle.desk.proofs.Refusing.{number_passed}
+use Rattle.rules.proofs.Lines.{entered_shown}
 use Rattle.recovery.proofs.Refused.{order_0, order_7}
 use Rattle.recovery.proofs.ordered.Goals as goal
-
-pub returns-in_err-lent : goal.returns-in_err-lent
-returns-in_err-lent c = number_passed _ _ c.from_residual.ensures.1 c.in_err-lent.ensures.number (ordered_stop _ _ _)
 
 pub vouched-requires : goal.vouched-requires
 vouched-requires c =
@@ -23,12 +19,6 @@ pub in_order-requires : goal.in_order-requires
 in_order-requires c =
     let I = c.in_ok-lent.ensures.lent.of_image in
     record { image_bound = rw (I.geometry, I.lent) (entered_shown _ _ _ (sym c.in_ok-lent.ensures.number)).header.taken_most }
-
-pub returns-then-not-in_order : goal.returns-then-not-in_order
-returns-then-not-in_order c =
-    let I = c.in_ok-lent.ensures.lent.of_image in
-    let E = entered_shown _ _ _ (sym c.in_ok-lent.ensures.number) in
-    sym (ordered_6 _ _ _ E (sym (rw (I.geometry, I.lent) at c.in_order.ensures) ∙ c.if-not-in_order.true))
 
 pub returns : goal.returns
 returns c =
