@@ -13,9 +13,9 @@ use Rattle.index.proofs.all_apart.Goals.{After-min}
 -- slots are left, and so are regions
 left : (c : After-min) → c.loop-from.r < c.args.image.now.g.entries
 left c =
-    let a = c.args in
+    let i = c.args.image.now in
     let x = c.loop-from in
-    regions_left a.image.now.g (front_of a.image.now) c.requires.tabled.slotted x.r x.invariant.0
+    regions_left i.g (front_of i) c.requires.tabled.slotted x.r x.invariant.0
     (omega (arith, x.invariant.3, c.taken-n.ensures, c.loop-from-test.true))
 
 pub loop-from-init : goal.loop-from-init
@@ -23,17 +23,17 @@ loop-from-init c = (omega arith, refl, refl, sym (sum_none _), apart_none _ _ _,
 
 pub returns-then-not-windows_apart : goal.returns-then-not-windows_apart
 returns-then-not-windows_apart c =
-    let a = c.args in
+    let i = c.args.image.now in
     let x = c.loop-from in
-    let t = front_of a.image.now in
+    let t = front_of i in
     let to = c.read_starts-to in
-    let m = start_below a.image.now.g t c.requires.tabled.slotted (x.r + c.min.result) (omega (arith, c.min.ensures)) in
+    let m = start_below i.g t c.requires.tabled.slotted (x.r + c.min.result) (omega (arith, c.min.ensures)) in
     let twice = sym c.windows_apart.ensures ∙ c.if-not-windows_apart.true in
-    sym (apart_part a.image.now.g t 0 (taken a.image.now.g t) x.from to.result (omega arith) (omega (arith, to.ensures.0, m)) twice)
+    sym (apart_part i.g t 0 (taken i.g t) x.from to.result (omega arith) (omega (arith, to.ensures.0, m)) twice)
 
 pub loop-from-preserved : goal.loop-from-preserved
 loop-from-preserved c =
-    let a = c.args in
+    let i = c.args.image.now in
     let x = c.loop-from in
     let to = c.read_starts-to in
     let once = sym c.windows_apart.ensures ∙ c.if-not-windows_apart.false in (
@@ -41,15 +41,15 @@ loop-from-preserved c =
       to.auto.starts ∙ x.invariant.1,
       c.windows_apart.auto.seen ∙ x.invariant.2,
       to.ensures.0,
-      apart_join a.image.now.g (front_of a.image.now) 0 x.from to.result x.invariant.4 once,
+      apart_join i.g (front_of i) 0 x.from to.result x.invariant.4 once,
       λ l. let aligned = x.invariant.5 (left (goal.at.loop-from-preserved c).After-min) in omega (arith, aligned, c.min.ensures),
     )
 
 pub returns : goal.returns
 returns c =
-    let a = c.args in
+    let i = c.args.image.now in
     let x = c.loop-from in
-    let t = front_of a.image.now in
-    let m = start_below a.image.now.g t c.requires.tabled.slotted x.r x.invariant.0 in
-    let d : x.from ≡ taken a.image.now.g t = omega (arith, m, x.invariant.3, c.taken-n.ensures) in
+    let t = front_of i in
+    let m = start_below i.g t c.requires.tabled.slotted x.r x.invariant.0 in
+    let d : x.from ≡ taken i.g t = omega (arith, m, x.invariant.3, c.taken-n.ensures) in
     sym (rw d at x.invariant.4)

@@ -6,5 +6,5 @@ use Rattle.index.proofs.alone_all.Goals as goal
 
 pub returns : goal.returns
 returns c =
-    let a = c.args in
-    c.all_apart.ensures ∙ apart_alone a.image.now.g (front_of a.image.now) c.requires.slotted
+    let i = c.args.image.now in
+    c.all_apart.ensures ∙ apart_alone i.g (front_of i) c.requires.slotted

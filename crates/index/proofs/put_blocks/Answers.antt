@@ -10,7 +10,7 @@ use Rattle.index.proofs.put_blocks.Goals as goal
 use Rattle.index.proofs.put_blocks.Goals.{At-loop-b, In-loop-b}
 
 -- the block to put is taken
-inside : (c : In-loop-b) → let a = c.args in c.loop-b.b < taken a.image.now.g (front_of a.image.now)
+inside : (c : In-loop-b) → let i = c.args.image.now in c.loop-b.b < taken i.g (front_of i)
 inside c = omega (arith, c.taken-b-end.ensures)
 
 -- the index is as long as it was
@@ -19,13 +19,13 @@ indexed c = let p = c.requires in record { allowed = p.tabled.1.allowed; long = 
 
 pub loop-b-preserved : goal.loop-b-preserved
 loop-b-preserved c =
-    let a = c.args in
+    let i = c.args.image.now in
     let p = c.requires in
-    let t = front_of a.image.now in
+    let t = front_of i in
     let l = inside (goal.at.loop-b-preserved c).In-loop-b in (
       omega arith,
       c.put_block.auto.index ∙ c.loop-b.invariant.1,
-      rw c.put_block.ensures (starts_kept a.image.now.g t c.loop-b.index (indexed (goal.at.loop-b-preserved c).At-loop-b) p.rules p.tabled.0.bound c.loop-b.b l c.loop-b.invariant.2),
-      rw c.put_block.ensures (spare_kept a.image.now.g t c.loop-b.index (indexed (goal.at.loop-b-preserved c).At-loop-b) p.rules p.tabled.0.bound c.loop-b.b l c.loop-b.invariant.3),
-      rw c.put_block.ensures (block_more a.image.now.g t c.loop-b.index (indexed (goal.at.loop-b-preserved c).At-loop-b) p.rules p.tabled.0.bound c.loop-b.b l c.loop-b.invariant.4),
+      rw c.put_block.ensures (starts_kept i.g t c.loop-b.index (indexed (goal.at.loop-b-preserved c).At-loop-b) p.rules p.tabled.0.bound c.loop-b.b l c.loop-b.invariant.2),
+      rw c.put_block.ensures (spare_kept i.g t c.loop-b.index (indexed (goal.at.loop-b-preserved c).At-loop-b) p.rules p.tabled.0.bound c.loop-b.b l c.loop-b.invariant.3),
+      rw c.put_block.ensures (block_more i.g t c.loop-b.index (indexed (goal.at.loop-b-preserved c).At-loop-b) p.rules p.tabled.0.bound c.loop-b.b l c.loop-b.invariant.4),
     )

@@ -16,50 +16,50 @@ inside : (c : In-loop-b) → c.loop-b.b < taken c.args.image.now.g (front_of c.a
 inside c = omega (arith, c.taken-b-end.ensures)
 
 -- its mark says whether it passes
-says : (c : After-mark) → let a = c.args in c.mark.result ≡ passes a.image.now.g (front_of a.image.now) a.w.from a.w.to c.loop-b.b
+says : (c : After-mark) → let i = c.args.image.now in c.mark.result ≡ passes i.g (front_of i) c.args.w.from c.args.w.to c.loop-b.b
 says c =
-    let a = c.args in
+    let i = c.args.image.now in
     let p = c.requires in
     let told = rw (c.in_window-one.ensures, c.slot_by-s.ensures) at c.mark.ensures.value in
     told
-    ∙ unseen_free a.image.now.g (front_of a.image.now) a.w a.starts.now p.tabled.0.slotted p.tabled.1 p.run.0
+    ∙ unseen_free i.g (front_of i) c.args.w c.args.starts.now p.tabled.0.slotted p.tabled.1 p.run.0
     c.loop-b.b (omega (arith, c.taken-b-end.ensures)) c.loop-b.seen c.loop-b.invariant.2
 
 pub loop-b-init : goal.loop-b-init
 loop-b-init c =
-    let a = c.args in
-    let t = front_of a.image.now in (
+    let i = c.args.image.now in
+    let t = front_of i in (
       omega arith,
       refl,
-      marks_none a.image.now.g t a.w.from a.w.to c.zero.new.part (λ k h. rw c.zero.ensures (get_or-replicate (length a.seen.now) (k / 8) 0 0 (omega (arith, c.requires.run.1)))),
-      all_none (passes a.image.now.g t a.w.from a.w.to),
+      marks_none i.g t c.args.w.from c.args.w.to c.zero.new.part (λ k h. rw c.zero.ensures (get_or-replicate (length c.args.seen.now) (k / 8) 0 0 (omega (arith, c.requires.run.1)))),
+      all_none (passes i.g t c.args.w.from c.args.w.to),
     )
 
 pub returns-then-not-mark : goal.returns-then-not-mark
 unfolding apart
 returns-then-not-mark c =
-    let a = c.args in
-    let t = front_of a.image.now in
+    let i = c.args.image.now in
+    let t = front_of i in
     let twice = sym (says (goal.at.returns-then-not-mark c).After-mark) ∙ c.if-not-mark.true in
-    sym (not_all (taken a.image.now.g t) (passes a.image.now.g t a.w.from a.w.to) c.loop-b.b (inside (goal.at.returns-then-not-mark c).In-loop-b) twice)
+    sym (not_all (taken i.g t) (passes i.g t c.args.w.from c.args.w.to) c.loop-b.b (inside (goal.at.returns-then-not-mark c).In-loop-b) twice)
 
 pub loop-b-preserved : goal.loop-b-preserved
 loop-b-preserved c =
-    let a = c.args in
+    let i = c.args.image.now in
     let p = c.requires in
-    let t = front_of a.image.now in
+    let t = front_of i in
     let once = sym (says (goal.at.loop-b-preserved c).After-mark) ∙ c.if-not-mark.false in (
       omega arith,
       c.mark.auto.seen ∙ c.loop-b.invariant.1,
       rw (c.mark.ensures.seen_after, c.in_window-one.ensures, c.slot_by-s.ensures)
-          (marks_more a.image.now.g t a.w a.starts.now p.tabled.0.slotted p.tabled.1 p.run.0
+          (marks_more i.g t c.args.w c.args.starts.now p.tabled.0.slotted p.tabled.1 p.run.0
           c.loop-b.b (inside (goal.at.loop-b-preserved c).In-loop-b) c.loop-b.seen c.loop-b.invariant.2 (omega (arith, c.zero.auto.part))),
-      all_more c.loop-b.b (passes a.image.now.g t a.w.from a.w.to) c.loop-b.invariant.3 once,
+      all_more c.loop-b.b (passes i.g t c.args.w.from c.args.w.to) c.loop-b.invariant.3 once,
     )
 
 pub returns : goal.returns
 unfolding apart
 returns c =
-    let a = c.args in
-    let e : c.loop-b.b ≡ taken a.image.now.g (front_of a.image.now) = omega (arith, c.taken-b-end.ensures) in
+    let i = c.args.image.now in
+    let e : c.loop-b.b ≡ taken i.g (front_of i) = omega (arith, c.taken-b-end.ensures) in
     sym (rw e at c.loop-b.invariant.3)

@@ -13,16 +13,16 @@ use Rattle.index.proofs.windows_apart.Goals.{Start}
 -- the slots end at N or before
 small : (c : Start) → c.args.w.to < 65536
 small c =
-    let a = c.args in
+    let i = c.args.image.now in
     let T = c.requires.tabled.0 in
     let F = c.requires.tabled.1 in
-    omega (arith, c.requires.all.0.high, start_below a.image.now.g (front_of a.image.now) T.slotted a.w.last.0 (omega (arith, F.whole, F.order)), T.bound, T.readable.allowed.blocks_most)
+    omega (arith, c.requires.all.0.high, start_below i.g (front_of i) T.slotted c.args.w.last.0 (omega (arith, F.whole, F.order)), T.bound, T.readable.allowed.blocks_most)
 
 pub loop-from-init : goal.loop-from-init
 loop-from-init c =
-    let a = c.args in
+    let i = c.args.image.now in
     let A = c.requires.all.0 in
-    let m = sum_mono (need_of a.image.now.g (front_of a.image.now)) a.w.first.0 a.w.last.0 (omega (arith, c.requires.tabled.1.whole)) in
+    let m = sum_mono (need_of i.g (front_of i)) c.args.w.first.0 c.args.w.last.0 (omega (arith, c.requires.tabled.1.whole)) in
     (omega arith, omega (arith, A.low, A.high, m), refl, apart_none _ _ _, λ l s lo hi. absurd (omega arith))
 
 pub overflow_mul-from : goal.overflow_mul-from
@@ -30,20 +30,20 @@ overflow_mul-from c = omega (arith, small (goal.at.overflow_mul-from c).Start)
 
 pub returns-then-not-window_apart : goal.returns-then-not-window_apart
 returns-then-not-window_apart c =
-    let a = c.args in
+    let i = c.args.image.now in
     let to = c.min-to in
     let twice = sym c.window_apart.ensures ∙ c.if-not-window_apart.true in
-    sym (apart_part a.image.now.g (front_of a.image.now) a.w.from a.w.to c.loop-from.from to.result (omega arith) (omega (arith, to.ensures)) twice)
+    sym (apart_part i.g (front_of i) c.args.w.from c.args.w.to c.loop-from.from to.result (omega arith) (omega (arith, to.ensures)) twice)
 
 pub loop-from-preserved : goal.loop-from-preserved
 loop-from-preserved c =
-    let a = c.args in
+    let i = c.args.image.now in
     let x = c.loop-from in
     let to = c.min-to in
     let once = sym c.window_apart.ensures ∙ c.if-not-window_apart.false in (
       omega (arith, to.ensures),
       omega (arith, to.ensures),
       c.window_apart.auto.seen ∙ x.invariant.2,
-      apart_join a.image.now.g (front_of a.image.now) a.w.from x.from to.result x.invariant.3 once,
+      apart_join i.g (front_of i) c.args.w.from x.from to.result x.invariant.3 once,
       λ l s lo hi. omega (arith, to.ensures),
     )

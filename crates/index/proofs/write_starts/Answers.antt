@@ -1,9 +1,6 @@
 -- Every start before `r` stands, and `start` is the next.
-use Prim.Native.Nat.{ℕ, ◌+◌, ◌-◌, ◌≤◌, ◌<◌}
+use Prim.Native.Nat.{◌+◌, ◌≤◌, ◌<◌}
 use mathlib.Core.Path.{◌≡◌, refl, sym, ap, ◌∙◌}
-use mathlib.Core.List.{List}
-use Rattle.laws.specs.Folds.{join_below}
-use Rattle.laws.specs.Bytes.{le, splice, put}
 use Rattle.laws.proofs.Folds.{sum_none, sum_more}
 use Rattle.image.specs.Views.{front_of}
 use Rattle.paper.specs.Image.{need_of}
@@ -22,26 +19,26 @@ indexed : (x : At-loop-r) → Indexed x.args.image.now.g x.loop-r.index
 indexed x = let p = x.requires in record { allowed = p.tabled.1.allowed; long = x.loop-r.invariant.1 ∙ p.tabled.1.long }
 
 -- the start and the region's need fit 2 bytes
-fits : (c : In-loop-r) → let a = c.args in
-    c.loop-r.start + need_of a.image.now.g (front_of a.image.now) c.loop-r.r < 65536
+fits : (c : In-loop-r) → let i = c.args.image.now in
+    c.loop-r.start + need_of i.g (front_of i) c.loop-r.r < 65536
 fits c =
-    let a = c.args in
+    let i = c.args.image.now in
     let p = c.requires in
-    let inside = need_inside a.image.now.g (front_of a.image.now) p.tabled.0.slotted c.loop-r.r (omega (arith, c.given_out-end.ensures)) in
+    let inside = need_inside i.g (front_of i) p.tabled.0.slotted c.loop-r.r (omega (arith, c.given_out-end.ensures)) in
     omega (arith, inside, p.tabled.0.bound, p.tabled.1.allowed.blocks_most)
 
 -- so does the last
 last_fits : (x : At-loop-r) → x.loop-r.start < 65536
 last_fits x =
-    let a = x.args in
+    let i = x.args.image.now in
     let p = x.requires.tabled in
-    let below = start_below a.image.now.g (front_of a.image.now) p.0.slotted x.loop-r.r (omega (arith, x.loop-r.invariant.0, x.given_out-end.ensures)) in
+    let below = start_below i.g (front_of i) p.0.slotted x.loop-r.r (omega (arith, x.loop-r.invariant.0, x.given_out-end.ensures)) in
     omega (arith, x.loop-r.invariant.2, below, p.0.bound, p.1.allowed.blocks_most)
 
 pub loop-r-init : goal.loop-r-init
 loop-r-init c =
-    let a = c.args in
-    (omega arith, refl, sym (sum_none (need_of a.image.now.g (front_of a.image.now))), below_none _)
+    let i = c.args.image.now in
+    (omega arith, refl, sym (sum_none (need_of i.g (front_of i))), below_none _)
 
 pub overflow_cast-start : goal.overflow_cast-start
 overflow_cast-start c = omega (arith, fits (goal.at.overflow_cast-start c).In-loop-r)
@@ -52,16 +49,15 @@ overflow_add-start c =
 
 pub loop-r-preserved : goal.loop-r-preserved
 loop-r-preserved c =
-    let a = c.args in
+    let i = c.args.image.now in
     let x = c.loop-r in
-    let t = front_of a.image.now in
-    let l : x.r ≤ a.image.now.g.entries = omega (arith, c.given_out-end.ensures) in
-    let I = indexed (goal.at.loop-r-preserved c).At-loop-r in
-    let e = c.write.ensures ∙ ap (λ o. put 2 o x.start x.index) c.start_at.ensures in (
+    let t = front_of i in
+    let l : x.r ≤ i.g.entries = omega (arith, c.given_out-end.ensures) in
+    let I = indexed (goal.at.loop-r-preserved c).At-loop-r in (
       omega arith,
       c.write.auto.s ∙ x.invariant.1,
-      omega (arith, sum_more x.r (need_of a.image.now.g t)),
-      rw e (start_more a.image.now.g t x.index I x.r x.start l (omega (arith, fits (goal.at.loop-r-preserved c).In-loop-r)) x.invariant.2 x.invariant.3),
+      omega (arith, sum_more x.r (need_of i.g t)),
+      rw (c.write.ensures, c.start_at.ensures) (start_more i.g t x.index I x.r x.start l (omega (arith, fits (goal.at.loop-r-preserved c).In-loop-r)) x.invariant.2 x.invariant.3),
     )
 
 pub overflow_cast-start-2 : goal.overflow_cast-start-2
@@ -70,12 +66,11 @@ overflow_cast-start-2 c = omega (arith, last_fits (goal.at.overflow_cast-start-2
 pub returns : goal.returns
 returns c =
     let v = c.given_out-end in
-    let a = c.args in
-    let t = front_of a.image.now in
+    let i = c.args.image.now in
+    let t = front_of i in
     let all : c.loop-r.r ≡ v.result.0 = omega (arith, c.loop-r.invariant.0, c.loop-r-test.false) in
-    let filled : ℕ → List ℕ = λ o. splice o (join_below (a.image.now.g.entries + 1 - v.result.0) (λ _. le 2 c.loop-r.start)) c.loop-r.index in
-    rw (c.fill_u16.ensures ∙ ap filled c.start_at-2.ensures)
-    (starts_filled a.image.now.g t c.loop-r.index (indexed (goal.at.returns c).At-loop-r) v.result.0 c.loop-r.start (omega (arith, v.ensures)) (last_fits (goal.at.returns c).At-loop-r)
-    (c.loop-r.invariant.2 ∙ ap (start_of a.image.now.g t) all)
-    (λ q h. start_given a.image.now.g t c.requires.high q (omega (arith, v.ensures)) ∙ sym (ap (start_of a.image.now.g t) v.ensures))
+    rw (c.fill_u16.ensures, c.start_at-2.ensures)
+    (starts_filled i.g t c.loop-r.index (indexed (goal.at.returns c).At-loop-r) v.result.0 c.loop-r.start (omega (arith, v.ensures)) (last_fits (goal.at.returns c).At-loop-r)
+    (c.loop-r.invariant.2 ∙ ap (start_of i.g t) all)
+    (λ q h. start_given i.g t c.requires.high q (omega (arith, v.ensures)) ∙ sym (ap (start_of i.g t) v.ensures))
     (λ q h. c.loop-r.invariant.3 q (omega arith)))
