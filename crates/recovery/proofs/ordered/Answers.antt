@@ -1,8 +1,12 @@
 -- `recovery::ordered` meets its contract: a law for each return.
 use Rattle.std.proofs.Common.{sym, ◌∙◌}
-use Rattle.rules.proofs.Lines.{entered_shown}
+use Rattle.rules.proofs.Lines.{entered_shown, ordered_stop}
 use Rattle.recovery.proofs.Refused.{order_0, order_7}
+use Rattle.desk.proofs.Refusing.{number_passed}
 use Rattle.recovery.proofs.ordered.Goals as goal
+
+pub returns-in_err-lent : goal.returns-in_err-lent
+returns-in_err-lent c = number_passed _ _ c.from_residual.ensures.1 c.in_err-lent.ensures.number (ordered_stop _ _ _)
 
 pub vouched-requires : goal.vouched-requires
 vouched-requires c =

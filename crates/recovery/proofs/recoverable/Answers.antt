@@ -1,7 +1,11 @@
--- `recovery::recoverable` meets its contract: the check finds all but what the header says.
+-- `recovery::recoverable` meets its contract.
 use Rattle.std.proofs.Common.{sym}
-use Rattle.rules.proofs.Lines.{indexed_head_shown}
+use Rattle.rules.proofs.Lines.{indexed_head_shown, recover_stop}
+use Rattle.desk.proofs.Refusing.{number_passed}
 use Rattle.recovery.proofs.recoverable.Goals as goal
+
+pub returns-in_err-image-clause-number : goal.returns-in_err-image-clause-number
+returns-in_err-image-clause-number c = number_passed _ _ c.from_residual.ensures.1 c.in_err-image.ensures.number (recover_stop _ _ _)
 
 pub tail_missing-requires : goal.tail_missing-requires
 tail_missing-requires c =
