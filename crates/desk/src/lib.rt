@@ -8,12 +8,11 @@ ghost use Rattle.paper.specs.Calls.{size};
 ghost use Rattle.paper.specs.Refusals.{usable};
 ghost use Rattle.paper.specs.Answers.{number_in, answered, counted};
 ghost use Rattle.paper.specs.Outcomes.{lent, gives, outcome};
-ghost use Rattle.rules.specs.Facts.{Header};
 ghost use Rattle.rules.specs.Lines.{head_no, whole_no, name_no, book_no, lent_no, indexed_head_no, entered_no};
 ghost use Rattle.image.specs.Views.{front_of, IsImage};
 ghost use Rattle.index.specs.Views.{IsLent};
 
-use image::Image;
+use image::{Headed, Image};
 use index::{Index, Lent};
 use paper::{Block, Book, Edition, Geometry, Pages, Refusal, Region};
 
@@ -21,9 +20,9 @@ use paper::{Block, Book, Edition, Geometry, Pages, Refusal, Region};
 
 // 1, 3, 4.
 #[tactic(auto, unfolding(rules::specs::Lines::head_no, paper::specs::Refusals::first))]
-pub fn head<'a>(g: Geometry, image: &'a [u8]) -> Result<Image<'a>, Refusal>
+pub fn head<'a>(g: Geometry, image: &'a [u8]) -> Result<Headed<'a>, Refusal>
     ensures number { number_in result ≡ head_no g image.now }
-    ensures image { IfOk result (λ i. IsImage g image.now i) }
+    ensures image { IfOk result (λ h. IsImage g image.now h.image) }
 {
     if !g.allowed() {
         return Err(Refusal::GeometryWrong);
@@ -35,14 +34,13 @@ pub fn head<'a>(g: Geometry, image: &'a [u8]) -> Result<Image<'a>, Refusal>
     if !image.header_right() {
         return Err(Refusal::HeaderWrong);
     }
-    Ok(image)
+    Ok(Headed { image })
 }
 
 // 1, 2, 3.
 #[tactic(auto, unfolding(rules::specs::Lines::lent_no, paper::specs::Refusals::first))]
-pub fn lent<'a, 'b>(g: Geometry, image: &'a [u8], index: &'b [u8]) -> Result<Lent<'a, 'b>, Refusal>
-    ensures number { number_in result ≡ lent_no g image.now index.now }
-    ensures lent { IfOk result (λ l. IsLent g image.now index.now l) }
+pub fn lent(g: Geometry, image: &[u8], index: &[u8]) -> Result<(), Refusal>
+    ensures { number_in result ≡ lent_no g image.now index.now }
 {
     if !g.allowed() {
         return Err(Refusal::GeometryWrong);
@@ -53,35 +51,33 @@ pub fn lent<'a, 'b>(g: Geometry, image: &'a [u8], index: &'b [u8]) -> Result<Len
     if image.len() < g.block_bytes() {
         return Err(Refusal::ImageShort);
     }
-    Ok(Lent {
-        image: Image { g, bytes: image },
-        index: Index { g, bytes: index },
-    })
+    Ok(())
 }
 
 // 1, 2, 3, 4.
 #[tactic(auto, unfolding(rules::specs::Lines::indexed_head_no, rules::specs::Lines::lent_no, paper::specs::Refusals::first))]
-pub fn indexed_head<'a, 'b>(
+pub fn indexed_head<'a>(
     g: Geometry,
     image: &'a [u8],
-    index: &'b [u8],
-) -> Result<Lent<'a, 'b>, Refusal>
+    index: &[u8],
+) -> Result<Headed<'a>, Refusal>
     ensures number { number_in result ≡ indexed_head_no g image.now index.now }
-    ensures lent { IfOk result (λ l. IsLent g image.now index.now l) }
+    ensures image { IfOk result (λ h. IsImage g image.now h.image) }
 {
-    let lent = lent(g, image, index)?;
-    if !lent.image.header_right() {
+    lent(g, image, index)?;
+    let image = Image { g, bytes: image };
+    if !image.header_right() {
         return Err(Refusal::HeaderWrong);
     }
-    Ok(lent)
+    Ok(Headed { image })
 }
 
 // The image has room for fewer blocks than were taken: it ends before the next one, block N, would begin. N is at most B, so this says as
 // much as K does, and divides nothing.
-pub fn tail_missing(image: &Image<'_>) -> bool
-    requires header { Header image.now.g (front_of image.now) }
-    ensures { result ≡ ltb (capacity image.now.g (length image.now.bytes.now)) (taken image.now.g (front_of image.now)) }
+pub fn tail_missing(headed: &Headed<'_>) -> bool
+    ensures { result ≡ ltb (capacity headed.now.image.g (length headed.now.image.bytes.now)) (taken headed.now.image.g (front_of headed.now.image)) }
 {
+    let image = &headed.image;
     image.bytes.len() < image.g.data_at(Block(image.taken()))
 }
 
@@ -91,11 +87,11 @@ fn whole<'a>(g: Geometry, image: &'a [u8]) -> Result<Image<'a>, Refusal>
     ensures number { number_in result ≡ whole_no g image.now }
     ensures image { IfOk result (λ i. IsImage g image.now i) }
 {
-    let image = head(g, image)?;
-    if tail_missing(&image) {
+    let headed = head(g, image)?;
+    if tail_missing(&headed) {
         return Err(Refusal::TailMissing);
     }
-    Ok(image)
+    Ok(headed.image)
 }
 
 // 1, 2, 3, 4, 5.
@@ -108,11 +104,14 @@ pub fn entered<'a, 'b>(
     ensures number { number_in result ≡ entered_no g image.now index.now }
     ensures lent { IfOk result (λ l. IsLent g image.now index.now l) }
 {
-    let lent = indexed_head(g, image, index)?;
-    if tail_missing(&lent.image) {
+    let headed = indexed_head(g, image, index)?;
+    if tail_missing(&headed) {
         return Err(Refusal::TailMissing);
     }
-    Ok(lent)
+    Ok(Lent {
+        image: headed.image,
+        index: Index { g, bytes: index },
+    })
 }
 
 #[tactic(auto, unfolding(paper::specs::Refusals::usable))]

@@ -7,7 +7,7 @@ ghost use Rattle.paper.specs.Geometry.{version2, version3, size_bytes, all_ones,
 ghost use Rattle.paper.specs.Image.{size_width, front, version_of, stamped, taken, counter, owner, place, names, size_of, pages_of, edition_of, is_open, need_of, set_taken, set_counter, set_entry, set_pages, set_not_open};
 ghost use Rattle.paper.specs.WellFormed.{current, rule_a, fits, rule_b, rule_c, named, rule_e};
 ghost use Rattle.paper.specs.Refusals.{header_right, unused_blank};
-ghost use Rattle.rules.specs.Facts.{Readable, fronted};
+ghost use Rattle.rules.specs.Facts.{Readable, Header, fronted};
 ghost use Rattle.rules.specs.Given.{High, given};
 ghost use Rattle.image.specs.Entries.{sized, fixed, fresh, released_entry};
 
@@ -20,6 +20,13 @@ pub struct Image<'a> {
     pub g: Geometry,
     pub bytes: &'a [u8],
     pub ghost readable: { Readable g bytes.now },
+}
+
+// One whose header is right: refusal 4 does not apply either.
+#[derive(Clone, Copy)]
+pub struct Headed<'a> {
+    pub image: Image<'a>,
+    pub ghost header: { Header image.g (front image.g image.bytes.now) },
 }
 
 // ---- what stands in the header and the tables
@@ -390,14 +397,6 @@ impl Image<'_> {
         before < self.pages(r).0
     }
 
-    // Rule d but for its last sentence.
-    pub fn all_named(&self) -> bool
-        requires image_bound { taken self.now.g (front_of self.now) ≤ self.now.g.blocks }
-        ensures { result ≡ all_below (taken self.now.g (front_of self.now)) (named self.now.g (front_of self.now)) }
-    {
-        (0..self.taken()).all(|b| self.named(Block(b)))
-    }
-
     fn names_none(&self, b: Block) -> bool
         requires b_lt_blocks { b.0 < self.now.g.blocks }
         ensures { result ≡ names self.now.g (front_of self.now) (no_region self.now.g) 0 b.0 }
@@ -410,5 +409,16 @@ impl Image<'_> {
     {
         let n = self.taken() as usize;
         (n..self.g.blocks).all(|b| self.names_none(Block(b as u16)))
+    }
+}
+
+impl Headed<'_> {
+    ghost use Rattle.image.specs.Views.{front_of};
+
+    // Rule d but for its last sentence.
+    pub fn all_named(&self) -> bool
+        ensures { result ≡ all_below (taken self.now.image.g (front_of self.now.image)) (named self.now.image.g (front_of self.now.image)) }
+    {
+        (0..self.image.taken()).all(|b| self.image.named(Block(b)))
     }
 }

@@ -8,7 +8,7 @@ ghost use Rattle.paper.specs.Geometry.{slot_at};
 ghost use Rattle.paper.specs.Image.{taken};
 ghost use Rattle.paper.specs.Index.{index_of, start_of, start_in, slot_in};
 ghost use Rattle.paper.specs.WellFormed.{alone};
-ghost use Rattle.rules.specs.Facts.{Rules, Indexed, slot_for};
+ghost use Rattle.rules.specs.Facts.{Rules, Indexed, Entered, slot_for};
 ghost use Rattle.rules.specs.Given.{High};
 ghost use Rattle.image.specs.Views.{front_of};
 ghost use Rattle.index.specs.Slotted.{Tabled};
@@ -27,12 +27,20 @@ pub struct Index<'a> {
     pub ghost indexed: { Indexed g bytes.now },
 }
 
-// An image and the index that is lent with it: refusals 1 to 3 do not apply.
+// An image and the index that is lent with it: refusals 1 to 5 do not apply.
 #[derive(Clone, Copy)]
 pub struct Lent<'a, 'b> {
     pub image: Image<'a>,
     pub index: Index<'b>,
     pub ghost same: { index.g ≡ image.g },
+    pub ghost entered: { Entered image.g image.bytes.now index.bytes.now },
+}
+
+// Tables in which each block below N has a slot, and two may have the same one: rule c holds, and d but for its last sentence.
+#[derive(Clone, Copy)]
+pub struct Tables<'a> {
+    pub image: Image<'a>,
+    pub ghost tabled: { Tabled image.g image.bytes.now },
 }
 
 // ---- what an index says
@@ -54,67 +62,54 @@ impl Index<'_> {
     }
 }
 
-impl Lent<'_, '_> {
-    // Block b's slot, where the index has its starts.
-    fn slot_for(&self, b: Block) -> usize
-        requires tabled { Tabled self.now.image.g self.now.image.bytes.now }
-        requires starts { Starts self.now.image.g (front_of self.now.image) self.now.index.bytes.now }
-        requires b_bound { b.0 < taken self.now.image.g (front_of self.now.image) }
-        ensures { result ≡ slot_for self.now.image.g (front_of self.now.image) b.0 }
-    {
-        let start = self.index.start(self.image.owner(b)) as usize;
-        let place = self.image.place(b).0;
-        start + place
-    }
-}
-
 // ---- its writing
 
-// From C on no region has blocks, so that each starts where they end.
-fn write_starts(image: &Image<'_>, index: &mut [u8])
-    requires tabled { Tabled image.now.g image.now.bytes.now × Indexed image.now.g index.old }
-    requires high { High image.now.g (front_of image.now) }
-    ensures { Starts image.now.g (front_of image.now) index.new }
-{
-    let g = image.g;
-    let end = image.given_out();
-    let mut start: u64 = 0;
-    for r in 0..end.0 {
-        (start as u16).write(index, g.start_at(Region(r)));
-        start += image.need(Region(r));
+impl Tables<'_> {
+    // From C on no region has blocks, so that each starts where they end.
+    fn write_starts(&self, index: &mut [u8])
+        requires indexed { Indexed self.now.image.g index.old }
+        requires high { High self.now.image.g (front_of self.now.image) }
+        ensures { Starts self.now.image.g (front_of self.now.image) index.new }
+    {
+        let g = self.image.g;
+        let end = self.image.given_out();
+        let mut start: u64 = 0;
+        for r in 0..end.0 {
+            (start as u16).write(index, g.start_at(Region(r)));
+            start += self.image.need(Region(r));
+        }
+        numbers::fill_u16(
+            index,
+            g.start_at(end),
+            g.entries + 1 - end.0 as usize,
+            start as u16,
+        );
     }
-    numbers::fill_u16(
-        index,
-        g.start_at(end),
-        g.entries + 1 - end.0 as usize,
-        start as u16,
-    );
-}
 
-fn put_block(image: &Image<'_>, index: &mut [u8], b: Block)
-    requires tabled { Tabled image.now.g image.now.bytes.now × Indexed image.now.g index.old }
-    requires starts { Starts image.now.g (front_of image.now) index.old }
-    requires b_bound { b.0 < taken image.now.g (front_of image.now) }
-    ensures { index.new ≡ put 2 (slot_at image.now.g (slot_for image.now.g (front_of image.now) b.0)) b.0 index.old }
-{
-    let g = image.g;
-    let lent = Lent {
-        image: *image,
-        index: Index { g, bytes: index },
-    };
-    let s = lent.slot_for(b);
-    b.0.write(index, g.slot_at(s));
-}
+    // Block b into its slot, where the index has its starts.
+    fn put_block(&self, index: &mut [u8], b: Block)
+        requires indexed { Indexed self.now.image.g index.old }
+        requires starts { Starts self.now.image.g (front_of self.now.image) index.old }
+        requires b_bound { b.0 < taken self.now.image.g (front_of self.now.image) }
+        ensures { index.new ≡ put 2 (slot_at self.now.image.g (slot_for self.now.image.g (front_of self.now.image) b.0)) b.0 index.old }
+    {
+        let g = self.image.g;
+        let before = Index { g, bytes: index };
+        let start = before.start(self.image.owner(b)) as usize;
+        let place = self.image.place(b).0;
+        b.0.write(index, g.slot_at(start + place));
+    }
 
-fn put_blocks(image: &Image<'_>, index: &mut [u8])
-    requires tabled { Tabled image.now.g image.now.bytes.now × Indexed image.now.g index.old }
-    requires rules { Rules image.now.g (front_of image.now) }
-    requires starts { Starts image.now.g (front_of image.now) index.old }
-    requires spare { Spare image.now.g (front_of image.now) index.old }
-    ensures { Witness image.now.g (front_of image.now) index.new }
-{
-    for b in 0..image.taken() {
-        put_block(image, index, Block(b));
+    fn put_blocks(&self, index: &mut [u8])
+        requires indexed { Indexed self.now.image.g index.old }
+        requires rules { Rules self.now.image.g (front_of self.now.image) }
+        requires starts { Starts self.now.image.g (front_of self.now.image) index.old }
+        requires spare { Spare self.now.image.g (front_of self.now.image) index.old }
+        ensures { Witness self.now.image.g (front_of self.now.image) index.new }
+    {
+        for b in 0..self.image.taken() {
+            self.put_block(index, Block(b));
+        }
     }
 }
 
@@ -126,9 +121,10 @@ pub fn write_index(image: &Image<'_>, index: &mut [u8])
     ensures { index.new ≡ index_of image.now.g (front_of image.now) }
 {
     let g = image.g;
-    write_starts(image, index);
+    let tables = Tables { image: *image };
+    tables.write_starts(index);
     numbers::fill_u16(index, g.slot_at(0), g.blocks, paper::NO_BLOCK.0);
-    put_blocks(image, index);
+    tables.put_blocks(index);
 }
 
 // ---- its check against the tables
@@ -195,7 +191,6 @@ impl Lent<'_, '_> {
     }
 
     fn spare_right(&self) -> bool
-        requires image_bound { taken self.now.image.g (front_of self.now.image) ≤ self.now.image.g.blocks }
         ensures { result ≡ all_from (taken self.now.image.g (front_of self.now.image)) self.now.image.g.blocks (spare_right self.now.image.g (front_of self.now.image) self.now.index.bytes.now) }
     {
         let n = self.image.taken() as usize;
@@ -204,7 +199,7 @@ impl Lent<'_, '_> {
 
     // Whether the index says of each region what it needs, and of each block below N where it stands, so that no two name the same pair.
     pub fn witnessed(&self) -> bool
-        requires high { High self.now.image.g (front_of self.now.image) × (taken self.now.image.g (front_of self.now.image) ≤ self.now.image.g.blocks) }
+        requires high { High self.now.image.g (front_of self.now.image) }
         ensures { result ≡ witnessed self.now.image.g (front_of self.now.image) self.now.index.bytes.now }
     {
         self.starts_right() && self.blocks_right() && self.spare_right()
@@ -230,28 +225,6 @@ struct Window {
     to: usize,
 }
 
-// The starts of the regions from `first` up to `last`, of which `start` is the first; answers the start after them.
-fn read_starts(
-    image: &Image<'_>,
-    first: Region,
-    last: Region,
-    start: usize,
-    starts: &mut [u16],
-) -> usize
-    requires tabled { Tabled image.now.g image.now.bytes.now }
-    requires first_le_last { (first.0 ≤ last.0) × (last.0 ≤ image.now.g.entries) × (last.0 ≤ first.0 + length starts.old) }
-    requires start_value { start ≡ start_of image.now.g (front_of image.now) first.0 }
-    ensures { (result ≡ start_of image.now.g (front_of image.now) last.0) × StartsFrom image.now.g (front_of image.now) first.0 last.0 starts.new }
-{
-    let mut sum = start;
-    for r in first.0..last.0 {
-        let nth = (r - first.0) as usize;
-        starts[nth] = sum as u16;
-        sum += image.need(Region(r)) as usize;
-    }
-    sum
-}
-
 // 1 where two numbers are of one run of so many, and 0 elsewhere: a digit, since a branch that the processor cannot foretell costs
 // more than a look for nothing.
 fn same_run(size: usize, a: usize, b: usize) -> u8
@@ -259,26 +232,6 @@ fn same_run(size: usize, a: usize, b: usize) -> u8
     ensures { result ≡ digit (eqb (a / size) (b / size)) }
 {
     u8::from(a / size == b / size)
-}
-
-// Block b's slot, where its region's start is among those at hand; some number elsewhere.
-fn slot_by(image: &Image<'_>, starts: &[u16], b: Block) -> usize
-    requires tabled { Tabled image.now.g image.now.bytes.now }
-    requires b_bound { b.0 < taken image.now.g (front_of image.now) }
-    requires starts_len { length starts.now ≡ regions_at_once }
-    ensures { result ≡ slot_by image.now.g (front_of image.now) starts.now b.0 }
-{
-    let nth = image.owner(b).0 as usize % REGIONS_AT_ONCE;
-    starts[nth] as usize + image.place(b).0
-}
-
-// 1 for a block of the window's, whose slot is s then; 0 for any other.
-fn in_window(image: &Image<'_>, w: Window, s: usize, b: Block) -> u8
-    requires { b.0 < image.now.g.blocks }
-    ensures { result ≡ digit (in_window image.now.g (front_of image.now) w s b.0) }
-{
-    let r = image.owner(b).0 as usize;
-    same_run(REGIONS_AT_ONCE, r, w.first.0 as usize) & same_run(SLOTS_AT_ONCE, s, w.from)
 }
 
 // Sets bit s where `one` is 1; false where it was set already.
@@ -293,77 +246,117 @@ fn mark(seen: &mut [u8], s: usize, one: u8) -> bool
     before & bit == 0
 }
 
-// One pass over the blocks for a window that `seen` has bits for. Not by `all`, since each block changes what the next is held against.
-fn window_apart(image: &Image<'_>, w: Window, starts: &[u16], seen: &mut [u8]) -> bool
-    requires tabled { Tabled image.now.g image.now.bytes.now × Framed image.now.g (front_of image.now) w starts.now }
-    requires run { Run image.now.g (front_of image.now) w × (length seen.old ≡ mark_bytes) }
-    ensures { result ≡ apart image.now.g (front_of image.now) w.from w.to }
-{
-    numbers::zero(seen);
-    for b in 0..image.taken() {
-        let s = slot_by(image, starts, Block(b));
-        let one = in_window(image, w, s, Block(b));
-        if !mark(seen, s % SLOTS_AT_ONCE, one) {
-            return false;
+impl Tables<'_> {
+    // The starts of the regions from `first` up to `last`, of which `start` is the first; answers the start after them.
+    fn read_starts(
+        &self,
+        first: Region,
+        last: Region,
+        start: usize,
+        starts: &mut [u16],
+    ) -> usize
+        requires first_le_last { (first.0 ≤ last.0) × (last.0 ≤ self.now.image.g.entries) × (last.0 ≤ first.0 + length starts.old) }
+        requires start_value { start ≡ start_of self.now.image.g (front_of self.now.image) first.0 }
+        ensures { (result ≡ start_of self.now.image.g (front_of self.now.image) last.0) × StartsFrom self.now.image.g (front_of self.now.image) first.0 last.0 starts.new }
+    {
+        let mut sum = start;
+        for r in first.0..last.0 {
+            let nth = (r - first.0) as usize;
+            starts[nth] = sum as u16;
+            sum += self.image.need(Region(r)) as usize;
         }
+        sum
     }
-    true
-}
 
-// All slots of the window's regions, run by run. It steps by hand: a range over the runs would have one pass too many where no slot is left.
-fn windows_apart(image: &Image<'_>, w: Window, starts: &[u16], seen: &mut [u8]) -> bool
-    requires tabled { Tabled image.now.g image.now.bytes.now × Framed image.now.g (front_of image.now) w starts.now }
-    requires all { All image.now.g (front_of image.now) w × (length seen.old ≡ mark_bytes) }
-    ensures { result ≡ apart image.now.g (front_of image.now) w.from w.to }
-{
-    let mut from = w.from;
-    while from < w.to {
-        let to = w.to.min((from / SLOTS_AT_ONCE + 1) * SLOTS_AT_ONCE);
-        let part = Window { from, to, ..w };
-        if !window_apart(image, part, starts, seen) {
-            return false;
+    // Block b's slot, where its region's start is among those at hand; some number elsewhere.
+    fn slot_by(&self, starts: &[u16], b: Block) -> usize
+        requires b_bound { b.0 < taken self.now.image.g (front_of self.now.image) }
+        requires starts_len { length starts.now ≡ regions_at_once }
+        ensures { result ≡ slot_by self.now.image.g (front_of self.now.image) starts.now b.0 }
+    {
+        let nth = self.image.owner(b).0 as usize % REGIONS_AT_ONCE;
+        starts[nth] as usize + self.image.place(b).0
+    }
+
+    // 1 for a block of the window's, whose slot is s then; 0 for any other.
+    fn in_window(&self, w: Window, s: usize, b: Block) -> u8
+        requires { b.0 < self.now.image.g.blocks }
+        ensures { result ≡ digit (in_window self.now.image.g (front_of self.now.image) w s b.0) }
+    {
+        let r = self.image.owner(b).0 as usize;
+        same_run(REGIONS_AT_ONCE, r, w.first.0 as usize) & same_run(SLOTS_AT_ONCE, s, w.from)
+    }
+
+    // One pass over the blocks for a window that `seen` has bits for. Not by `all`, since each block changes what the next is held against.
+    fn window_apart(&self, w: Window, starts: &[u16], seen: &mut [u8]) -> bool
+        requires framed { Framed self.now.image.g (front_of self.now.image) w starts.now }
+        requires run { Run self.now.image.g (front_of self.now.image) w × (length seen.old ≡ mark_bytes) }
+        ensures { result ≡ apart self.now.image.g (front_of self.now.image) w.from w.to }
+    {
+        numbers::zero(seen);
+        for b in 0..self.image.taken() {
+            let s = self.slot_by(starts, Block(b));
+            let one = self.in_window(w, s, Block(b));
+            if !mark(seen, s % SLOTS_AT_ONCE, one) {
+                return false;
+            }
         }
-        from = to;
+        true
     }
-    true
-}
 
-// All regions, by as many as `starts` has room for, until no slot is left. A pass for regions that hold no block is left out.
-// It steps by hand: a range over the regions would read those too that come after the last slot.
-fn all_apart(image: &Image<'_>, starts: &mut [u16], seen: &mut [u8]) -> bool
-    requires tabled { Tabled image.now.g image.now.bytes.now }
-    requires starts_len { (length starts.old ≡ regions_at_once) × (length seen.old ≡ mark_bytes) }
-    ensures { result ≡ apart image.now.g (front_of image.now) 0 (taken image.now.g (front_of image.now)) }
-{
-    let n = image.taken() as usize;
-    let mut r = 0;
-    let mut from = 0;
-    while from < n {
-        let end = r + REGIONS_AT_ONCE.min(image.g.entries - r);
-        let first = Region(r as u32);
-        let last = Region(end as u32);
-        let to = read_starts(image, first, last, from, starts);
-        let w = Window {
-            first,
-            last,
-            from,
-            to,
-        };
-        if !windows_apart(image, w, starts, seen) {
-            return false;
+    // All slots of the window's regions, run by run. It steps by hand: a range over the runs would have one pass too many where no slot is left.
+    fn windows_apart(&self, w: Window, starts: &[u16], seen: &mut [u8]) -> bool
+        requires framed { Framed self.now.image.g (front_of self.now.image) w starts.now }
+        requires all { All self.now.image.g (front_of self.now.image) w × (length seen.old ≡ mark_bytes) }
+        ensures { result ≡ apart self.now.image.g (front_of self.now.image) w.from w.to }
+    {
+        let mut from = w.from;
+        while from < w.to {
+            let to = w.to.min((from / SLOTS_AT_ONCE + 1) * SLOTS_AT_ONCE);
+            let part = Window { from, to, ..w };
+            if !self.window_apart(part, starts, seen) {
+                return false;
+            }
+            from = to;
         }
-        r = end;
-        from = to;
+        true
     }
-    true
-}
 
-// Whether no two blocks name the same pair, in at most E / 6,144 + N / 32,768 + 1 passes over the blocks.
-pub fn alone_all(image: &Image<'_>) -> bool
-    requires { Tabled image.now.g image.now.bytes.now }
-    ensures { result ≡ all_below (taken image.now.g (front_of image.now)) (alone image.now.g (front_of image.now)) }
-{
-    let mut starts = [0u16; REGIONS_AT_ONCE];
-    let mut seen = [0u8; MARK_BYTES];
-    all_apart(image, &mut starts, &mut seen)
+    // All regions, by as many as `starts` has room for, until no slot is left. A pass for regions that hold no block is left out.
+    // It steps by hand: a range over the regions would read those too that come after the last slot.
+    fn all_apart(&self, starts: &mut [u16], seen: &mut [u8]) -> bool
+        requires starts_len { (length starts.old ≡ regions_at_once) × (length seen.old ≡ mark_bytes) }
+        ensures { result ≡ apart self.now.image.g (front_of self.now.image) 0 (taken self.now.image.g (front_of self.now.image)) }
+    {
+        let n = self.image.taken() as usize;
+        let mut r = 0;
+        let mut from = 0;
+        while from < n {
+            let end = r + REGIONS_AT_ONCE.min(self.image.g.entries - r);
+            let first = Region(r as u32);
+            let last = Region(end as u32);
+            let to = self.read_starts(first, last, from, starts);
+            let w = Window {
+                first,
+                last,
+                from,
+                to,
+            };
+            if !self.windows_apart(w, starts, seen) {
+                return false;
+            }
+            r = end;
+            from = to;
+        }
+        true
+    }
+
+    // Whether no two blocks name the same pair, in at most E / 6,144 + N / 32,768 + 1 passes over the blocks.
+    pub fn alone_all(&self) -> bool
+        ensures { result ≡ all_below (taken self.now.image.g (front_of self.now.image)) (alone self.now.image.g (front_of self.now.image)) }
+    {
+        let mut starts = [0u16; REGIONS_AT_ONCE];
+        let mut seen = [0u8; MARK_BYTES];
+        self.all_apart(&mut starts, &mut seen)
+    }
 }

@@ -1,8 +1,7 @@
 // Recovery, and the check of a lent index against what recovery would give.
 #![tactic(auto)]
 
-ghost use Rattle.std.specs.Prelude.{◌≡◌, [], ◌≤◌, IfOk};
-ghost use Rattle.paper.specs.Image.{taken};
+ghost use Rattle.std.specs.Prelude.{◌≡◌, [], IfOk};
 ghost use Rattle.paper.specs.WellFormed.{in_order};
 ghost use Rattle.paper.specs.Calls.{recover};
 ghost use Rattle.paper.specs.Answers.{number_in, answered, plain};
@@ -12,24 +11,23 @@ ghost use Rattle.rules.specs.Lines.{ordered_no};
 ghost use Rattle.image.specs.Views.{front_of, IsImage};
 ghost use Rattle.recovery.specs.Refused.{loosely, vouched};
 
-use image::Image;
-use index::Lent;
+use image::{Headed, Image};
+use index::{Lent, Tables};
 use paper::{Geometry, Refusal};
 
 // Rules a to e, but for the last sentence of d.
 #[tactic(auto, unfolding(crate::specs::Refused::loosely))]
-fn loosely(image: &Image<'_>) -> bool
-    requires image_bound { taken image.now.g (front_of image.now) ≤ image.now.g.blocks }
-    ensures { result ≡ loosely image.now.g (front_of image.now) }
+fn loosely(headed: &Headed<'_>) -> bool
+    ensures { result ≡ loosely headed.now.image.g (front_of headed.now.image) }
 {
-    image.regions_in_order() && image.all_named() && image.rule_e()
+    headed.image.regions_in_order() && headed.all_named() && headed.image.rule_e()
 }
 
-fn in_order(image: &Image<'_>) -> bool
-    requires image_bound { taken image.now.g (front_of image.now) ≤ image.now.g.blocks }
-    ensures { result ≡ in_order image.now.g (front_of image.now) }
+fn in_order(headed: &Headed<'_>) -> bool
+    ensures { result ≡ in_order headed.now.image.g (front_of headed.now.image) }
 {
-    loosely(image) && index::alone_all(image)
+    let image = headed.image;
+    loosely(headed) && Tables { image }.alone_all()
 }
 
 // 1 to 4, 16, 5, 6.
@@ -38,24 +36,23 @@ fn recoverable<'a>(g: Geometry, image: &'a [u8], index: &[u8]) -> Result<Image<'
     ensures number { number_in result ≡ refusal g image.now index.now recover }
     ensures image { IfOk result (λ i. IsImage g image.now i) }
 {
-    let image = desk::indexed_head(g, image, index)?.image;
-    if !image.unused_blank() {
+    let headed = desk::indexed_head(g, image, index)?;
+    if !headed.image.unused_blank() {
         return Err(Refusal::Newer);
     }
-    if desk::tail_missing(&image) {
+    if desk::tail_missing(&headed) {
         return Err(Refusal::TailMissing);
     }
-    if !in_order(&image) {
+    if !in_order(&headed) {
         return Err(Refusal::TablesWrong);
     }
-    Ok(image)
+    Ok(headed.image)
 }
 
 // Whether the tables keep the rules and the index is what recovery would give: the index is its own witness. Its starts tell the needs and
 // their sum, so that each book fits, and its slots that no two blocks name the same pair.
 #[tactic(auto, unfolding(crate::specs::Refused::vouched))]
 fn vouched(lent: &Lent<'_, '_>) -> bool
-    requires image_bound { taken lent.now.image.g (front_of lent.now.image) ≤ lent.now.image.g.blocks }
     ensures { result ≡ vouched lent.now.image.g (front_of lent.now.image) lent.now.index.bytes.now }
 {
     lent.image.rule_a() && lent.image.reclaimed_whole() && lent.image.rule_e() && lent.witnessed()
@@ -70,7 +67,8 @@ pub fn ordered(g: Geometry, image: &[u8], index: &[u8]) -> Result<(), Refusal>
     if vouched(&lent) {
         return Ok(());
     }
-    if !in_order(&lent.image) {
+    let image = lent.image;
+    if !in_order(&Headed { image }) {
         return Err(Refusal::TablesWrong);
     }
     Err(Refusal::IndexWrong)
