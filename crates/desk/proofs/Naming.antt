@@ -1,4 +1,5 @@
--- 8 and 18, the checks of a book's name: which of them refuses, and that each line with them refuses as they do.
+-- What a header that is right shows; and 8 and 18, the checks of a book's name: which of them refuses, and that each line with them refuses as
+-- they do.
 use Rattle.std.specs.Prelude.{ℕ, ◌≡◌, ◌≢◌, Bool, true, false, List, []}
 use Rattle.std.proofs.Common.{refl, sym, ◌∙◌, arith}
 use native.Mathlib.Decide.{ℕ_discrete}
@@ -7,11 +8,14 @@ use Rattle.laws.proofs.Tests.{clash, not_of_true}
 use Rattle.paper.specs.declared.Geometry.{Geometry}
 use Rattle.paper.specs.Image.{front, edition_of}
 use Rattle.paper.specs.Calls.{grow, release}
-use Rattle.paper.specs.Refusals.{usable, no8, no18, refusal}
-use Rattle.rules.specs.Facts.{IsBook, Ordered}
+use Rattle.paper.specs.Refusals.{header_right, usable, no8, no18, refusal}
+use Rattle.rules.specs.Facts.{Readable, Header, IsBook, Ordered}
 use Rattle.rules.specs.Lines.{name_no}
 use Rattle.rules.proofs.First.{Passes, first_nil, pass, halt, shown}
-use Rattle.rules.proofs.Lines.{grow_8, grow_18, release_8, release_18}
+use Rattle.rules.proofs.Lines.{head_shown, head_0, grow_8, grow_18, release_8, release_18}
+
+pub header_seen : (g : Geometry) (image : List ℕ) → Readable g image → header_right g (front g image) ≡ true → Header g (front g image)
+header_seen g image R h = (head_shown g image (head_0 g image R h)).header
 
 module _ (g : Geometry) (image : List ℕ) (r d : ℕ) where
   ask8 : Passes (no8 g image [] r) (usable g (front g image) r ≡ true)

@@ -1,5 +1,5 @@
 -- `desk::lent` meets its contract.
-use Rattle.std.proofs.Common.{sym, ◌∙◌, arith}
+use Rattle.std.proofs.Common.{sym, ◌∙◌}
 use Rattle.paper.proofs.Arithmetic.{allowed_facts}
 use Rattle.desk.proofs.lent.Goals as goal
 
@@ -8,6 +8,3 @@ index_bytes-requires c = allowed_facts _ (sym c.allowed.ensures ∙ c.if-not-all
 
 pub block_bytes-requires : goal.block_bytes-requires
 block_bytes-requires c = allowed_facts _ (sym c.allowed.ensures ∙ c.if-not-allowed.false)
-
-pub invariant_of-result : goal.invariant_of-result
-invariant_of-result c = record { readable = record { allowed = allowed_facts _ (sym c.allowed.ensures ∙ c.if-not-allowed.false); long = omega arith } }

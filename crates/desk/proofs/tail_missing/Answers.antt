@@ -4,5 +4,6 @@ use Rattle.desk.proofs.tail_missing.Goals as goal
 
 pub returns : goal.returns
 returns c =
-    let i = c.args.image.now in
-    rw (c.data_at.ensures, c.taken.ensures) (tail_short i.g i.readable.allowed _ _ i.readable.long c.requires.header.taken_most)
+    let h = c.args.headed.now in
+    let i = h.image in
+    rw (c.data_at.ensures, c.taken.ensures) (tail_short i.g i.readable.allowed _ _ i.readable.long h.header.taken_most)

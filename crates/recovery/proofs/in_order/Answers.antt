@@ -3,11 +3,13 @@ use Rattle.std.proofs.Common.{sym, ◌∙◌}
 use Rattle.recovery.proofs.Refused.{loosely_facts, order_loose, order_not_loose}
 use Rattle.recovery.proofs.in_order.Goals as goal
 
-pub alone_all-requires : goal.alone_all-requires
-alone_all-requires c = record {
-  readable = c.args.image.now.readable;
-  bound = c.requires.image_bound;
-  slotted = loosely_facts _ _ (sym c.loosely.ensures ∙ c.if-loosely.true);
+pub invariant_of-alone_all : goal.invariant_of-alone_all
+invariant_of-alone_all c = record {
+  tabled = record {
+    readable = c.args.headed.now.image.readable;
+    bound = c.args.headed.now.header.taken_most;
+    slotted = loosely_facts _ _ (sym c.loosely.ensures ∙ c.if-loosely.true);
+  };
 }
 
 pub returns-then-loosely : goal.returns-then-loosely
