@@ -7,22 +7,22 @@ use Rattle.paper.specs.Image.{need_of}
 use Rattle.index.proofs.Slots.{start_below}
 use Rattle.index.proofs.Repeats.{apart_none, apart_join, apart_part}
 use native.Mathlib.Omega.{arith}
-use Rattle.index.proofs.windows_apart.Goals as goal
-use Rattle.index.proofs.windows_apart.Goals.{Start}
+use Rattle.index.proofs.Tables.windows_apart.Goals as goal
+use Rattle.index.proofs.Tables.windows_apart.Goals.{Start}
 
 -- the slots end at N or before
 small : (c : Start) → c.args.w.to < 65536
 small c =
-    let i = c.args.image.now in
-    let T = c.requires.tabled.0 in
-    let F = c.requires.tabled.1 in
+    let i = c.args.self.now.image in
+    let T = c.args.self.now.tabled in
+    let F = c.requires.framed in
     omega (arith, c.requires.all.0.high, start_below i.g (front_of i) T.slotted c.args.w.last.0 (omega (arith, F.whole, F.order)), T.bound, T.readable.allowed.blocks_most)
 
 pub loop-from-init : goal.loop-from-init
 loop-from-init c =
-    let i = c.args.image.now in
+    let i = c.args.self.now.image in
     let A = c.requires.all.0 in
-    let m = sum_mono (need_of i.g (front_of i)) c.args.w.first.0 c.args.w.last.0 (omega (arith, c.requires.tabled.1.whole)) in
+    let m = sum_mono (need_of i.g (front_of i)) c.args.w.first.0 c.args.w.last.0 (omega (arith, c.requires.framed.whole)) in
     (omega arith, omega (arith, A.low, A.high, m), refl, apart_none _ _ _, λ l s lo hi. absurd (omega arith))
 
 pub overflow_mul-from : goal.overflow_mul-from
@@ -30,14 +30,14 @@ overflow_mul-from c = omega (arith, small (goal.at.overflow_mul-from c).Start)
 
 pub returns-then-not-window_apart : goal.returns-then-not-window_apart
 returns-then-not-window_apart c =
-    let i = c.args.image.now in
+    let i = c.args.self.now.image in
     let to = c.min-to in
     let twice = sym c.window_apart.ensures ∙ c.if-not-window_apart.true in
     sym (apart_part i.g (front_of i) c.args.w.from c.args.w.to c.loop-from.from to.result (omega arith) (omega (arith, to.ensures)) twice)
 
 pub loop-from-preserved : goal.loop-from-preserved
 loop-from-preserved c =
-    let i = c.args.image.now in
+    let i = c.args.self.now.image in
     let x = c.loop-from in
     let to = c.min-to in
     let once = sym c.window_apart.ensures ∙ c.if-not-window_apart.false in (

@@ -7,13 +7,13 @@ use Rattle.paper.specs.Image.{need_of}
 use Rattle.index.proofs.Slots.{need_inside}
 use Rattle.index.proofs.Repeats.{starts_more}
 use native.Mathlib.Omega.{arith}
-use Rattle.index.proofs.read_starts.Goals as goal
-use Rattle.index.proofs.read_starts.Goals.{In-loop-r}
+use Rattle.index.proofs.Tables.read_starts.Goals as goal
+use Rattle.index.proofs.Tables.read_starts.Goals.{In-loop-r}
 
 -- the sum and the region's need fit 2 bytes
-fits : (c : In-loop-r) → let i = c.args.image.now in c.loop-r.sum + need_of i.g (front_of i) c.loop-r.r < 65536
+fits : (c : In-loop-r) → let i = c.args.self.now.image in c.loop-r.sum + need_of i.g (front_of i) c.loop-r.r < 65536
 fits c =
-    let T = c.requires.tabled in
+    let T = c.args.self.now.tabled in
     let inside = need_inside _ _ T.slotted c.loop-r.r (omega arith) in
     omega (arith, inside, T.bound, T.readable.allowed.blocks_most)
 
@@ -25,7 +25,7 @@ overflow_add-sum c = omega (arith, fits (goal.at.overflow_add-sum c).In-loop-r)
 
 pub loop-r-preserved : goal.loop-r-preserved
 loop-r-preserved c =
-    let i = c.args.image.now in
+    let i = c.args.self.now.image in
     let x = c.loop-r in
     let t = front_of i in (
       omega arith,

@@ -6,9 +6,9 @@ use Rattle.image.specs.Views.{front_of}
 use Rattle.paper.specs.Index.{slot_in}
 use Rattle.rules.specs.Facts.{slot_for}
 use Rattle.index.specs.Witnessed.{Starts, Spare}
-use Rattle.index.proofs.put_blocks.Given as goal
+use Rattle.index.proofs.Tables.put_blocks.Given as goal
 
 abbrev pub invariant-loop-b : goal.invariant-loop-b
 invariant-loop-b l =
-    (l.b ≤ l.b-end) × (length l.index ≡ length l.initial.index) × Starts l.image.g (front_of l.image) l.index × Spare l.image.g (front_of l.image) l.index
-    × ((a : ℕ) → a < l.b → slot_in l.image.g l.index (slot_for l.image.g (front_of l.image) a) ≡ a)
+    (l.b ≤ l.b-end) × (length l.index ≡ length l.initial.index) × Starts l.self.image.g (front_of l.self.image) l.index × Spare l.self.image.g (front_of l.self.image) l.index
+    × ((a : ℕ) → a < l.b → slot_in l.self.image.g l.index (slot_for l.self.image.g (front_of l.self.image) a) ≡ a)

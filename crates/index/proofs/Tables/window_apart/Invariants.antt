@@ -6,9 +6,9 @@ use lib.ListN.{length}
 use Rattle.laws.specs.Folds.{all_below}
 use Rattle.image.specs.Views.{front_of}
 use Rattle.index.proofs.Repeats.{Marks, passes}
-use Rattle.index.proofs.window_apart.Given as goal
+use Rattle.index.proofs.Tables.window_apart.Given as goal
 
 abbrev pub invariant-loop-b : goal.invariant-loop-b
 invariant-loop-b l =
-    (l.b ≤ l.b-end) × (length l.seen ≡ length l.initial.seen) × Marks l.image.g (front_of l.image) l.w.from l.w.to l.b l.seen
-    × (all_below l.b (passes l.image.g (front_of l.image) l.w.from l.w.to) ≡ true)
+    (l.b ≤ l.b-end) × (length l.seen ≡ length l.initial.seen) × Marks l.self.image.g (front_of l.self.image) l.w.from l.w.to l.b l.seen
+    × (all_below l.b (passes l.self.image.g (front_of l.self.image) l.w.from l.w.to) ≡ true)

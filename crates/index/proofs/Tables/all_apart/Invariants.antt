@@ -6,12 +6,12 @@ use lib.ListN.{length}
 use Rattle.image.specs.Views.{front_of}
 use Rattle.paper.specs.Index.{start_of}
 use Rattle.index.specs.Repeats.{regions_at_once, apart}
-use Rattle.index.proofs.all_apart.Given as goal
+use Rattle.index.proofs.Tables.all_apart.Given as goal
 
 abbrev pub invariant-loop-from : goal.invariant-loop-from
 invariant-loop-from l =
-    (l.r ≤ l.image.g.entries) × (length l.starts ≡ length l.initial.starts) × (length l.seen ≡ length l.initial.seen) × (l.from ≡ start_of l.image.g (front_of l.image) l.r)
-    × (apart l.image.g (front_of l.image) 0 l.from ≡ true) × (l.r < l.image.g.entries → l.r % regions_at_once ≡ 0)
+    (l.r ≤ l.self.image.g.entries) × (length l.starts ≡ length l.initial.starts) × (length l.seen ≡ length l.initial.seen) × (l.from ≡ start_of l.self.image.g (front_of l.self.image) l.r)
+    × (apart l.self.image.g (front_of l.self.image) 0 l.from ≡ true) × (l.r < l.self.image.g.entries → l.r % regions_at_once ≡ 0)
 
 abbrev pub decreases-loop-from : goal.decreases-loop-from
-decreases-loop-from l = l.image.g.entries - l.r
+decreases-loop-from l = l.self.image.g.entries - l.r

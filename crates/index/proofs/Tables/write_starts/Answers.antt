@@ -11,33 +11,33 @@ use Rattle.index.proofs.Slots.{need_inside, start_below}
 use Rattle.index.proofs.Filling.{start_more, starts_filled}
 use native.Mathlib.Omega.{arith}
 use borrow.Author.Count.{below_none}
-use Rattle.index.proofs.write_starts.Goals as goal
-use Rattle.index.proofs.write_starts.Goals.{At-loop-r, In-loop-r}
+use Rattle.index.proofs.Tables.write_starts.Goals as goal
+use Rattle.index.proofs.Tables.write_starts.Goals.{At-loop-r, In-loop-r}
 
 -- the index stays as long as it was
-indexed : (x : At-loop-r) → Indexed x.args.image.now.g x.loop-r.index
-indexed x = let p = x.requires in record { allowed = p.tabled.1.allowed; long = x.loop-r.invariant.1 ∙ p.tabled.1.long }
+indexed : (x : At-loop-r) → Indexed x.args.self.now.image.g x.loop-r.index
+indexed x = let p = x.requires in record { allowed = p.indexed.allowed; long = x.loop-r.invariant.1 ∙ p.indexed.long }
 
 -- the start and the region's need fit 2 bytes
-fits : (c : In-loop-r) → let i = c.args.image.now in
+fits : (c : In-loop-r) → let i = c.args.self.now.image in
     c.loop-r.start + need_of i.g (front_of i) c.loop-r.r < 65536
 fits c =
-    let i = c.args.image.now in
+    let i = c.args.self.now.image in
     let p = c.requires in
-    let inside = need_inside i.g (front_of i) p.tabled.0.slotted c.loop-r.r (omega (arith, c.given_out-end.ensures)) in
-    omega (arith, inside, p.tabled.0.bound, p.tabled.1.allowed.blocks_most)
+    let inside = need_inside i.g (front_of i) c.args.self.now.tabled.slotted c.loop-r.r (omega (arith, c.given_out-end.ensures)) in
+    omega (arith, inside, c.args.self.now.tabled.bound, p.indexed.allowed.blocks_most)
 
 -- so does the last
 last_fits : (x : At-loop-r) → x.loop-r.start < 65536
 last_fits x =
-    let i = x.args.image.now in
-    let p = x.requires.tabled in
-    let below = start_below i.g (front_of i) p.0.slotted x.loop-r.r (omega (arith, x.loop-r.invariant.0, x.given_out-end.ensures)) in
-    omega (arith, x.loop-r.invariant.2, below, p.0.bound, p.1.allowed.blocks_most)
+    let i = x.args.self.now.image in
+    let T = x.args.self.now.tabled in
+    let below = start_below i.g (front_of i) T.slotted x.loop-r.r (omega (arith, x.loop-r.invariant.0, x.given_out-end.ensures)) in
+    omega (arith, x.loop-r.invariant.2, below, T.bound, x.requires.indexed.allowed.blocks_most)
 
 pub loop-r-init : goal.loop-r-init
 loop-r-init c =
-    let i = c.args.image.now in
+    let i = c.args.self.now.image in
     (omega arith, refl, sym (sum_none (need_of i.g (front_of i))), below_none _)
 
 pub overflow_cast-start : goal.overflow_cast-start
@@ -49,7 +49,7 @@ overflow_add-start c =
 
 pub loop-r-preserved : goal.loop-r-preserved
 loop-r-preserved c =
-    let i = c.args.image.now in
+    let i = c.args.self.now.image in
     let x = c.loop-r in
     let t = front_of i in
     let l : x.r ≤ i.g.entries = omega (arith, c.given_out-end.ensures) in
@@ -66,7 +66,7 @@ overflow_cast-start-2 c = omega (arith, last_fits (goal.at.overflow_cast-start-2
 pub returns : goal.returns
 returns c =
     let v = c.given_out-end in
-    let i = c.args.image.now in
+    let i = c.args.self.now.image in
     let t = front_of i in
     let all : c.loop-r.r ≡ v.result.0 = omega (arith, c.loop-r.invariant.0, c.loop-r-test.false) in
     rw (c.fill_u16.ensures, c.start_at-2.ensures)

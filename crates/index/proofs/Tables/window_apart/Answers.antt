@@ -8,26 +8,26 @@ use Rattle.paper.specs.Image.{taken}
 use Rattle.index.specs.Repeats.{apart}
 use Rattle.index.proofs.Repeats.{passes, marks_none, marks_more, unseen_free}
 use native.Mathlib.Omega.{arith}
-use Rattle.index.proofs.window_apart.Goals as goal
-use Rattle.index.proofs.window_apart.Goals.{After-mark, In-loop-b}
+use Rattle.index.proofs.Tables.window_apart.Goals as goal
+use Rattle.index.proofs.Tables.window_apart.Goals.{After-mark, In-loop-b}
 
 -- the block to mark is taken
-inside : (c : In-loop-b) → c.loop-b.b < taken c.args.image.now.g (front_of c.args.image.now)
+inside : (c : In-loop-b) → c.loop-b.b < taken c.args.self.now.image.g (front_of c.args.self.now.image)
 inside c = omega (arith, c.taken-b-end.ensures)
 
 -- its mark says whether it passes
-says : (c : After-mark) → let i = c.args.image.now in c.mark.result ≡ passes i.g (front_of i) c.args.w.from c.args.w.to c.loop-b.b
+says : (c : After-mark) → let i = c.args.self.now.image in c.mark.result ≡ passes i.g (front_of i) c.args.w.from c.args.w.to c.loop-b.b
 says c =
-    let i = c.args.image.now in
+    let i = c.args.self.now.image in
     let p = c.requires in
     let told = rw (c.in_window-one.ensures, c.slot_by-s.ensures) at c.mark.ensures.value in
     told
-    ∙ unseen_free i.g (front_of i) c.args.w c.args.starts.now p.tabled.0.slotted p.tabled.1 p.run.0
+    ∙ unseen_free i.g (front_of i) c.args.w c.args.starts.now c.args.self.now.tabled.slotted p.framed p.run.0
     c.loop-b.b (omega (arith, c.taken-b-end.ensures)) c.loop-b.seen c.loop-b.invariant.2
 
 pub loop-b-init : goal.loop-b-init
 loop-b-init c =
-    let i = c.args.image.now in
+    let i = c.args.self.now.image in
     let t = front_of i in (
       omega arith,
       refl,
@@ -38,21 +38,21 @@ loop-b-init c =
 pub returns-then-not-mark : goal.returns-then-not-mark
 unfolding apart
 returns-then-not-mark c =
-    let i = c.args.image.now in
+    let i = c.args.self.now.image in
     let t = front_of i in
     let twice = sym (says (goal.at.returns-then-not-mark c).After-mark) ∙ c.if-not-mark.true in
     sym (not_all (taken i.g t) (passes i.g t c.args.w.from c.args.w.to) c.loop-b.b (inside (goal.at.returns-then-not-mark c).In-loop-b) twice)
 
 pub loop-b-preserved : goal.loop-b-preserved
 loop-b-preserved c =
-    let i = c.args.image.now in
+    let i = c.args.self.now.image in
     let p = c.requires in
     let t = front_of i in
     let once = sym (says (goal.at.loop-b-preserved c).After-mark) ∙ c.if-not-mark.false in (
       omega arith,
       c.mark.auto.seen ∙ c.loop-b.invariant.1,
       rw (c.mark.ensures.seen_after, c.in_window-one.ensures, c.slot_by-s.ensures)
-          (marks_more i.g t c.args.w c.args.starts.now p.tabled.0.slotted p.tabled.1 p.run.0
+          (marks_more i.g t c.args.w c.args.starts.now c.args.self.now.tabled.slotted p.framed p.run.0
           c.loop-b.b (inside (goal.at.loop-b-preserved c).In-loop-b) c.loop-b.seen c.loop-b.invariant.2 (omega (arith, c.zero.auto.part))),
       all_more c.loop-b.b (passes i.g t c.args.w.from c.args.w.to) c.loop-b.invariant.3 once,
     )
@@ -60,6 +60,6 @@ loop-b-preserved c =
 pub returns : goal.returns
 unfolding apart
 returns c =
-    let i = c.args.image.now in
+    let i = c.args.self.now.image in
     let e : c.loop-b.b ≡ taken i.g (front_of i) = omega (arith, c.taken-b-end.ensures) in
     sym (rw e at c.loop-b.invariant.3)
