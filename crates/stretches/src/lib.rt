@@ -2,7 +2,8 @@
 // once; a walk then goes on from block to block, divides nothing, and ends when no byte is left.
 #![tactic(auto)]
 
-ghost use Rattle.std.specs.Prelude.{◌≡◌, ◌+◌, ◌^◌, ◌≤◌, ◌<◌, length, replicate};
+ghost use Rattle.std.specs.Prelude.{◌≡◌, ◌+◌, ◌^◌, ◌≤◌, ◌<◌, length, replicate, MatchOption};
+ghost use Rattle.std.specs.Iterator.{at_most};
 ghost use Rattle.laws.specs.Bytes.{splice};
 ghost use Rattle.paper.specs.Geometry.{Allowed, block_bytes, data_at};
 ghost use Rattle.paper.specs.Image.{front, need_of};
@@ -11,7 +12,7 @@ ghost use Rattle.paper.specs.Calls.{loaded, stored};
 ghost use Rattle.paper.specs.Refusals.{right_at, touched_right};
 ghost use Rattle.rules.specs.Facts.{Entered, Reads};
 ghost use Rattle.image.specs.Views.{front_of};
-ghost use Rattle.stretches.specs.Stretch.{block_from, offset_of, in_block, IsStretch};
+ghost use Rattle.stretches.specs.Stretch.{block_from, offset_of, in_block, IsStretch, IsStep};
 
 use index::{Index, Lent};
 use paper::{Block, Geometry, Position, Region, Spot};
@@ -45,16 +46,45 @@ pub fn next_block(spot: Spot) -> Spot
     }
 }
 
-// The stretch that starts at the spot, of so many bytes left.
-fn stretch_at(index: &Index<'_>, start: u16, spot: Spot, left: usize) -> Stretch
+// A walk over so many bytes from a spot on, part by part: each part lies in one block. Where the next one starts, and how many bytes are left.
+#[derive(Drop)]
+pub struct Walk {
+    pub g: Geometry,
+    pub at: Spot,
+    pub left: usize,
+    pub ghost bounded: { Allowed g × (at.within < block_bytes g) × (at.position.0 + left < 2 ^ 40) },
+}
+
+// Of each part the spot where it starts, and how many bytes it has.
+impl Iterator for Walk {
+    type Item = (Spot, usize);
+
+    ghost next_gives = { λ w r v. MatchOption r (w.left ≡ 0) (λ x. IsStep w.g w.at w.left x.0 x.1 v.at v.left × (v.g ≡ w.g)) };
+
+    ghost remaining = { λ w. at_most w.left };
+
+    fn next(&mut self) -> Option<(Spot, usize)> {
+        if self.left == 0 {
+            return None;
+        }
+        let spot = self.at;
+        let bytes = in_block(self.g, spot, self.left);
+        *self = Walk {
+            g: self.g,
+            at: next_block(spot),
+            left: self.left - bytes,
+        };
+        Some((spot, bytes))
+    }
+}
+
+// Where the spot's byte stands in the image.
+fn byte_at(index: &Index<'_>, start: u16, spot: Spot) -> usize
     requires { (start + spot.position.0 < index.now.g.blocks) × (spot.within < block_bytes index.now.g) }
-    ensures { IsStretch index.now.g (block_from index.now.g index.now.bytes.now start spot.position.0) spot left result }
+    ensures { result ≡ data_at index.now.g (block_from index.now.g index.now.bytes.now start spot.position.0) + spot.within }
 {
-    let g = index.g;
     let b = index.slot(start as usize + spot.position.0);
-    let at = g.data_at(b) + spot.within;
-    let bytes = in_block(g, spot, left);
-    Stretch { at, bytes }
+    index.g.data_at(b) + spot.within
 }
 
 // The first stretch of a load of n bytes.
@@ -62,8 +92,9 @@ pub fn first_stretch(index: &Index<'_>, r: Region, spot: Spot, n: usize) -> Stre
     requires { (r.0 < index.now.g.entries) × (start_in index.now.g index.now.bytes.now r.0 + spot.position.0 < index.now.g.blocks) × (spot.within < block_bytes index.now.g) }
     ensures { IsStretch index.now.g (block_in index.now.g index.now.bytes.now r.0 spot.position.0) spot n result }
 {
-    let start = index.start(r);
-    stretch_at(index, start, spot, n)
+    let at = byte_at(index, index.start(r), spot);
+    let bytes = in_block(index.g, spot, n);
+    Stretch { at, bytes }
 }
 
 // ---- the check
@@ -90,18 +121,13 @@ pub fn touched_right(lent: &Lent<'_, '_>, r: Region, spot: Spot, n: usize) -> bo
     requires within_bound { (spot.within < block_bytes lent.now.image.g) × (offset_of lent.now.image.g spot + n < 2 ^ 40) }
     ensures { result ≡ touched_right lent.now.image.g (front_of lent.now.image) lent.now.index.bytes.now r.0 (offset_of lent.now.image.g spot) n }
 {
-    let g = lent.image.g;
     let start = lent.index.start(r);
-    let mut at = spot;
-    let mut left = n;
-    while 0 < left {
-        if !right_at(lent, r, start, at.position) {
-            return false;
-        }
-        left -= in_block(g, at, left);
-        at = next_block(at);
-    }
-    true
+    let mut walk = Walk {
+        g: lent.image.g,
+        at: spot,
+        left: n,
+    };
+    walk.all(|(at, _)| right_at(lent, r, start, at.position))
 }
 
 // ---- stretch by stretch
@@ -112,18 +138,17 @@ pub fn copy_out(lent: &Lent<'_, '_>, r: Region, spot: Spot, buffer: &mut [u8])
     ensures { buffer.new ≡ loaded lent.now.image.g (block_in lent.now.image.g lent.now.index.bytes.now r.0) (offset_of lent.now.image.g spot) (length buffer.old) lent.now.image.bytes.now }
 {
     let image = lent.image.bytes;
-    let n = buffer.len();
     let start = lent.index.start(r);
-    let mut at = spot;
-    let mut left = n;
-    while 0 < left {
-        let s = stretch_at(&lent.index, start, at, left);
-        let from = s.at;
-        let bytes = s.bytes;
-        let done = n - left;
+    let walk = Walk {
+        g: lent.index.g,
+        at: spot,
+        left: buffer.len(),
+    };
+    let mut done = 0;
+    for (at, bytes) in walk {
+        let from = byte_at(&lent.index, start, at);
         numbers::copy(&image[from..from + bytes], &mut buffer[done..done + bytes]);
-        left -= bytes;
-        at = next_block(at);
+        done += bytes;
     }
 }
 
@@ -132,15 +157,17 @@ pub fn copy_in(image: &mut [u8], index: &Index<'_>, r: Region, spot: Spot, bytes
     requires { Reads index.now.g image.old index.now.bytes.now r.0 (offset_of index.now.g spot) (length bytes.now) × (spot.within < block_bytes index.now.g) }
     ensures { image.new ≡ stored index.now.g (block_in index.now.g index.now.bytes.now r.0) (need_of index.now.g (front index.now.g image.old) r.0) (offset_of index.now.g spot) bytes.now image.old }
 {
-    let n = bytes.len();
     let start = index.start(r);
-    let mut at = spot;
-    let mut left = n;
-    while 0 < left {
-        let s = stretch_at(index, start, at, left);
-        numbers::copy_part(bytes, n - left, image, s.at, s.bytes);
-        left -= s.bytes;
-        at = next_block(at);
+    let walk = Walk {
+        g: index.g,
+        at: spot,
+        left: bytes.len(),
+    };
+    let mut done = 0;
+    for (at, n) in walk {
+        let to = byte_at(index, start, at);
+        numbers::copy_part(bytes, done, image, to, n);
+        done += n;
     }
 }
 

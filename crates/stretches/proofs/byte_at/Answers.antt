@@ -1,10 +1,10 @@
--- `stretch_at` meets its contract.
+-- `byte_at` meets its contract.
 use Rattle.paper.proofs.Arithmetic.{block_bound, data_bound}
 use native.Mathlib.Omega.{arith}
-use Rattle.stretches.proofs.stretch_at.Goals as goal
+use Rattle.stretches.proofs.byte_at.Goals as goal
 
-pub overflow_add-at : goal.overflow_add-at
-overflow_add-at c =
+pub overflow_add-result : goal.overflow_add-result
+overflow_add-result c =
     let A = c.args.index.now.indexed.allowed in
     let d = data_bound c.args.index.now.g c.slot-b.result.0 A (omega arith) in
     omega (arith, block_bound c.args.index.now.g A)
