@@ -16,6 +16,7 @@ ghost use Rattle.books.specs.Room.{has_room, Growing};
 use image::Image;
 use index::Index;
 use paper::{Book, Geometry, Offset, Pages, Refusal, Region};
+use stretches::Walk;
 
 // Whether region 1's blocks and those from N to K are enough for so many pages more. The sum of the pages could wrap, so the growth alone is
 // held against what the blocks leave.
@@ -103,12 +104,14 @@ fn zero_new(image: &mut [u8], index: &Index<'_>, region: Region, old: Pages, pag
     let g = index.g;
     let s = tables::take_stock(&Image { g, bytes: image }, region);
     let n = pages.0 * g.page as u64;
-    let mut at = g.spot(first_new(g, old));
-    let mut left = n as usize;
-    while 0 < left {
+    let walk = Walk {
+        g,
+        at: g.spot(first_new(g, old)),
+        left: n as usize,
+    };
+    for (at, bytes) in walk {
         let b = tables::block_after(index, region, s, at.position);
-        left -= stretches::zero_at(g, image, b, at, left);
-        at = stretches::next_block(at);
+        stretches::zero_at(g, image, b, at, bytes);
     }
 }
 

@@ -8,6 +8,12 @@ use Rattle.moving.proofs.movable.Goals as goal
 pub returns-in_err-lent : goal.returns-in_err-lent
 returns-in_err-lent c = number_passed _ _ c.from_residual.ensures.1 c.in_err-lent.ensures (move_stop _ _ _ _)
 
+pub capacity-room-requires : goal.capacity-room-requires
+capacity-room-requires c = (lent_shown _ _ _ (sym c.in_ok-lent.ensures)).0.allowed
+
+pub need-requires : goal.need-requires
+need-requires c = (lent_shown _ _ _ (sym c.in_ok-lent.ensures)).0.allowed
+
 pub returns-then-room-need : goal.returns-then-room-need
 returns-then-room-need c =
     let f = lent_shown _ _ _ (sym c.in_ok-lent.ensures) in
