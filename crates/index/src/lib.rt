@@ -13,7 +13,7 @@ ghost use Rattle.rules.specs.Given.{High};
 ghost use Rattle.image.specs.Views.{front_of};
 ghost use Rattle.index.specs.Slotted.{Tabled};
 ghost use Rattle.index.specs.Witnessed.{Starts, Spare, Witness, Summed, start_right, starts_right, step_right, block_right, spare_right, witnessed};
-ghost use Rattle.index.specs.Repeats.{regions_at_once, mark_bytes, digit, unseen, marked, apart, slot_by, in_window, StartsFrom, Framed, All, Run};
+ghost use Rattle.index.specs.Repeats.{regions_at_once, digit, unseen, marked, apart, slot_by, in_window, StartsFrom, Framed, All, Run};
 
 use image::Image;
 use numbers::Number;
@@ -225,6 +225,13 @@ struct Window {
     to: usize,
 }
 
+// What a pass works with: the starts of the window's regions, and a bit for each of its slots.
+#[derive(Drop)]
+struct Work {
+    starts: [u16; REGIONS_AT_ONCE],
+    seen: [u8; MARK_BYTES],
+}
+
 // 1 where two numbers are of one run of so many, and 0 elsewhere: a digit, since a branch that the processor cannot foretell costs
 // more than a look for nothing.
 fn same_run(size: usize, a: usize, b: usize) -> u8
@@ -282,16 +289,17 @@ impl Tables<'_> {
     }
 
     // One pass over the blocks for a window that `seen` has bits for. Not by `all`, since each block changes what the next is held against.
-    fn window_apart(&self, w: Window, starts: &[u16], seen: &mut [u8]) -> bool
-        requires framed { Framed self.now.image.g (front_of self.now.image) w starts.now }
-        requires run { Run self.now.image.g (front_of self.now.image) w × (length seen.old ≡ mark_bytes) }
-        ensures { result ≡ apart self.now.image.g (front_of self.now.image) w.from w.to }
+    fn window_apart(&self, w: Window, work: &mut Work) -> bool
+        requires framed { Framed self.now.image.g (front_of self.now.image) w work.old.starts }
+        requires run { Run self.now.image.g (front_of self.now.image) w }
+        ensures value { result ≡ apart self.now.image.g (front_of self.now.image) w.from w.to }
+        ensures kept { work.new.starts ≡ work.old.starts }
     {
-        numbers::zero(seen);
+        numbers::zero(&mut work.seen);
         for b in 0..self.image.taken() {
-            let s = self.slot_by(starts, Block(b));
+            let s = self.slot_by(&work.starts, Block(b));
             let one = self.in_window(w, s, Block(b));
-            if !mark(seen, s % SLOTS_AT_ONCE, one) {
+            if !mark(&mut work.seen, s % SLOTS_AT_ONCE, one) {
                 return false;
             }
         }
@@ -299,16 +307,16 @@ impl Tables<'_> {
     }
 
     // All slots of the window's regions, run by run. It steps by hand: a range over the runs would have one pass too many where no slot is left.
-    fn windows_apart(&self, w: Window, starts: &[u16], seen: &mut [u8]) -> bool
-        requires framed { Framed self.now.image.g (front_of self.now.image) w starts.now }
-        requires all { All self.now.image.g (front_of self.now.image) w × (length seen.old ≡ mark_bytes) }
+    fn windows_apart(&self, w: Window, work: &mut Work) -> bool
+        requires framed { Framed self.now.image.g (front_of self.now.image) w work.old.starts }
+        requires all { All self.now.image.g (front_of self.now.image) w }
         ensures { result ≡ apart self.now.image.g (front_of self.now.image) w.from w.to }
     {
         let mut from = w.from;
         while from < w.to {
             let to = w.to.min((from / SLOTS_AT_ONCE + 1) * SLOTS_AT_ONCE);
             let part = Window { from, to, ..w };
-            if !self.window_apart(part, starts, seen) {
+            if !self.window_apart(part, work) {
                 return false;
             }
             from = to;
@@ -318,8 +326,7 @@ impl Tables<'_> {
 
     // All regions, by as many as `starts` has room for, until no slot is left. A pass for regions that hold no block is left out.
     // It steps by hand: a range over the regions would read those too that come after the last slot.
-    fn all_apart(&self, starts: &mut [u16], seen: &mut [u8]) -> bool
-        requires starts_len { (length starts.old ≡ regions_at_once) × (length seen.old ≡ mark_bytes) }
+    fn all_apart(&self, work: &mut Work) -> bool
         ensures { result ≡ apart self.now.image.g (front_of self.now.image) 0 (taken self.now.image.g (front_of self.now.image)) }
     {
         let n = self.image.taken() as usize;
@@ -329,14 +336,14 @@ impl Tables<'_> {
             let end = r + REGIONS_AT_ONCE.min(self.image.g.entries - r);
             let first = Region(r as u32);
             let last = Region(end as u32);
-            let to = self.read_starts(first, last, from, starts);
+            let to = self.read_starts(first, last, from, &mut work.starts);
             let w = Window {
                 first,
                 last,
                 from,
                 to,
             };
-            if !self.windows_apart(w, starts, seen) {
+            if !self.windows_apart(w, work) {
                 return false;
             }
             r = end;
@@ -349,8 +356,10 @@ impl Tables<'_> {
     pub fn alone_all(&self) -> bool
         ensures { result ≡ all_below (taken self.now.image.g (front_of self.now.image)) (alone self.now.image.g (front_of self.now.image)) }
     {
-        let mut starts = [0u16; REGIONS_AT_ONCE];
-        let mut seen = [0u8; MARK_BYTES];
-        self.all_apart(&mut starts, &mut seen)
+        let mut work = Work {
+            starts: [0; REGIONS_AT_ONCE],
+            seen: [0; MARK_BYTES],
+        };
+        self.all_apart(&mut work)
     }
 }

@@ -16,10 +16,10 @@ left c =
     let i = c.args.self.now.image in
     let x = c.loop-from in
     regions_left i.g (front_of i) c.args.self.now.tabled.slotted x.r x.invariant.0
-    (omega (arith, x.invariant.3, c.taken-n.ensures, c.loop-from-test.true))
+    (omega (arith, x.invariant.1, c.taken-n.ensures, c.loop-from-test.true))
 
 pub loop-from-init : goal.loop-from-init
-loop-from-init c = (omega arith, refl, refl, sym (sum_none _), apart_none _ _ _, λ l. refl)
+loop-from-init c = (omega arith, sym (sum_none _), apart_none _ _ _, λ l. refl)
 
 pub returns-then-not-windows_apart : goal.returns-then-not-windows_apart
 returns-then-not-windows_apart c =
@@ -38,11 +38,9 @@ loop-from-preserved c =
     let to = c.read_starts-to in
     let once = sym c.windows_apart.ensures ∙ c.if-not-windows_apart.false in (
       omega (arith, c.min.ensures),
-      to.auto.starts ∙ x.invariant.1,
-      c.windows_apart.auto.seen ∙ x.invariant.2,
       to.ensures.0,
-      apart_join i.g (front_of i) 0 x.from to.result x.invariant.4 once,
-      λ l. let aligned = x.invariant.5 (left (goal.at.loop-from-preserved c).After-min) in omega (arith, aligned, c.min.ensures),
+      apart_join i.g (front_of i) 0 x.from to.result x.invariant.2 once,
+      λ l. let aligned = x.invariant.3 (left (goal.at.loop-from-preserved c).After-min) in omega (arith, aligned, c.min.ensures),
     )
 
 pub returns : goal.returns
@@ -51,5 +49,5 @@ returns c =
     let x = c.loop-from in
     let t = front_of i in
     let m = start_below i.g t c.args.self.now.tabled.slotted x.r x.invariant.0 in
-    let d : x.from ≡ taken i.g t = omega (arith, m, x.invariant.3, c.taken-n.ensures) in
-    sym (rw d at x.invariant.4)
+    let d : x.from ≡ taken i.g t = omega (arith, m, x.invariant.1, c.taken-n.ensures) in
+    sym (rw d at x.invariant.2)

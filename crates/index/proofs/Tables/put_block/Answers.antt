@@ -6,6 +6,7 @@ use Rattle.index.proofs.Slots.{owner_below, slot_below}
 use Rattle.index.proofs.Tables.put_block.Goals as goal
 use Rattle.index.proofs.Tables.put_block.Goals.{After-place-place}
 
+-- the two are that slot
 told : (c : After-place-place) → let i = c.args.self.now.image in
     (c.start-start.result + c.place-place.result.0 ≡ slot_for i.g (front_of i) c.args.b.0) × (slot_for i.g (front_of i) c.args.b.0 < i.g.blocks)
 told c =

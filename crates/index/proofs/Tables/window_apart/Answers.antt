@@ -22,8 +22,8 @@ says c =
     let p = c.requires in
     let told = rw (c.in_window-one.ensures, c.slot_by-s.ensures) at c.mark.ensures.value in
     told
-    ∙ unseen_free i.g (front_of i) c.args.w c.args.starts.now c.args.self.now.tabled.slotted p.framed p.run.0
-    c.loop-b.b (omega (arith, c.taken-b-end.ensures)) c.loop-b.seen c.loop-b.invariant.2
+    ∙ unseen_free i.g (front_of i) c.args.w c.loop-b.work.starts c.args.self.now.tabled.slotted (rw c.loop-b.invariant.1 p.framed) p.run
+    c.loop-b.b (omega (arith, c.taken-b-end.ensures)) c.loop-b.work.seen c.loop-b.invariant.2
 
 pub loop-b-init : goal.loop-b-init
 loop-b-init c =
@@ -31,17 +31,17 @@ loop-b-init c =
     let t = front_of i in (
       omega arith,
       refl,
-      marks_none i.g t c.args.w.from c.args.w.to c.zero.new.part (λ k h. rw c.zero.ensures (get_or-replicate (length c.args.seen.now) (k / 8) 0 0 (omega (arith, c.requires.run.1)))),
+      marks_none i.g t c.args.w.from c.args.w.to c.zero.new.part (λ k h. rw c.zero.ensures (get_or-replicate (length c.args.work.now.seen) (k / 8) 0 0 (omega arith))),
       all_none (passes i.g t c.args.w.from c.args.w.to),
     )
 
-pub returns-then-not-mark : goal.returns-then-not-mark
+pub returns-then-not-mark-clause-value : goal.returns-then-not-mark-clause-value
 unfolding apart
-returns-then-not-mark c =
+returns-then-not-mark-clause-value c =
     let i = c.args.self.now.image in
     let t = front_of i in
-    let twice = sym (says (goal.at.returns-then-not-mark c).After-mark) ∙ c.if-not-mark.true in
-    sym (not_all (taken i.g t) (passes i.g t c.args.w.from c.args.w.to) c.loop-b.b (inside (goal.at.returns-then-not-mark c).In-loop-b) twice)
+    let twice = sym (says (goal.at.returns-then-not-mark-clause-value c).After-mark) ∙ c.if-not-mark.true in
+    sym (not_all (taken i.g t) (passes i.g t c.args.w.from c.args.w.to) c.loop-b.b (inside (goal.at.returns-then-not-mark-clause-value c).In-loop-b) twice)
 
 pub loop-b-preserved : goal.loop-b-preserved
 loop-b-preserved c =
@@ -50,16 +50,16 @@ loop-b-preserved c =
     let t = front_of i in
     let once = sym (says (goal.at.loop-b-preserved c).After-mark) ∙ c.if-not-mark.false in (
       omega arith,
-      c.mark.auto.seen ∙ c.loop-b.invariant.1,
+      c.loop-b.invariant.1,
       rw (c.mark.ensures.seen_after, c.in_window-one.ensures, c.slot_by-s.ensures)
-          (marks_more i.g t c.args.w c.args.starts.now c.args.self.now.tabled.slotted p.framed p.run.0
-          c.loop-b.b (inside (goal.at.loop-b-preserved c).In-loop-b) c.loop-b.seen c.loop-b.invariant.2 (omega (arith, c.zero.auto.part))),
+          (marks_more i.g t c.args.w c.loop-b.work.starts c.args.self.now.tabled.slotted (rw c.loop-b.invariant.1 p.framed) p.run
+          c.loop-b.b (inside (goal.at.loop-b-preserved c).In-loop-b) c.loop-b.work.seen c.loop-b.invariant.2 (omega arith)),
       all_more c.loop-b.b (passes i.g t c.args.w.from c.args.w.to) c.loop-b.invariant.3 once,
     )
 
-pub returns : goal.returns
+pub returns-clause-value : goal.returns-clause-value
 unfolding apart
-returns c =
+returns-clause-value c =
     let i = c.args.self.now.image in
     let e : c.loop-b.b ≡ taken i.g (front_of i) = omega (arith, c.taken-b-end.ensures) in
     sym (rw e at c.loop-b.invariant.3)

@@ -2,7 +2,6 @@
 use Prim.Native.Nat.{◌≤◌}
 use mathlib.Core.Bool.{true}
 use mathlib.Core.Path.{◌≡◌}
-use lib.ListN.{length}
 use Rattle.laws.specs.Folds.{all_below}
 use Rattle.image.specs.Views.{front_of}
 use Rattle.index.proofs.Repeats.{Marks, passes}
@@ -10,5 +9,5 @@ use Rattle.index.proofs.Tables.window_apart.Given as goal
 
 abbrev pub invariant-loop-b : goal.invariant-loop-b
 invariant-loop-b l =
-    (l.b ≤ l.b-end) × (length l.seen ≡ length l.initial.seen) × Marks l.self.image.g (front_of l.self.image) l.w.from l.w.to l.b l.seen
+    (l.b ≤ l.b-end) × (l.work.starts ≡ l.initial.work.starts) × Marks l.self.image.g (front_of l.self.image) l.w.from l.w.to l.b l.work.seen
     × (all_below l.b (passes l.self.image.g (front_of l.self.image) l.w.from l.w.to) ≡ true)
