@@ -7,7 +7,7 @@ use Rattle.paper.specs.Refusals.{touched_right}
 use Rattle.paper.proofs.Arithmetic.{book_bytes_bound}
 use Rattle.rules.specs.Facts.{IsBook}
 use Rattle.rules.proofs.Usable.{usable_facts}
-use Rattle.rules.proofs.Lines.{book_shown, read_stop, read_book, read_9, read_7, read_0}
+use Rattle.rules.proofs.Lines.{entered_shown, book_shown, read_stop, read_book, read_9, read_7, read_0}
 use Rattle.image.specs.Views.{front_of}
 use Rattle.stretches.specs.Stretch.{IsSpot}
 use Rattle.stretches.proofs.Walks.{spot_offset}
@@ -35,7 +35,7 @@ within c = ltb-false _ _ (sym c.beyond.ensures ∙ c.if-beyond.false)
 turned : (c : After-spot-spot) → IsSpot c.in_ok-lent.lent.image.g c.args.offset.0 c.spot-spot.result
 turned c =
     rw c.in_ok-lent.ensures.lent.of_image.geometry
-    (spot_offset _ c.in_ok-lent.lent.entered.geometry _ _ c.spot-spot.ensures)
+    (spot_offset _ (entered_shown _ _ _ (sym c.in_ok-lent.ensures.number)).geometry _ _ c.spot-spot.ensures)
 
 touched : (c : After-touched_right)
     → let l = c.in_ok-lent.lent in
