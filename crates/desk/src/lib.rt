@@ -56,11 +56,7 @@ pub fn lent(g: Geometry, image: &[u8], index: &[u8]) -> Result<(), Refusal>
 
 // 1, 2, 3, 4.
 #[tactic(auto, unfolding(rules::specs::Lines::indexed_head_no, rules::specs::Lines::lent_no, paper::specs::Refusals::first))]
-pub fn indexed_head<'a>(
-    g: Geometry,
-    image: &'a [u8],
-    index: &[u8],
-) -> Result<Headed<'a>, Refusal>
+pub fn indexed_head<'a>(g: Geometry, image: &'a [u8], index: &[u8]) -> Result<Headed<'a>, Refusal>
     ensures number { number_in result ≡ indexed_head_no g image.now index.now }
     ensures image { IfOk result (λ h. IsImage g image.now h.image) }
 {

@@ -397,6 +397,14 @@ impl Image<'_> {
         before < self.pages(r).0
     }
 
+    // Rule d but for its last sentence.
+    pub fn all_named(&self) -> bool
+        requires image_bound { taken self.now.g (front_of self.now) ≤ self.now.g.blocks }
+        ensures { result ≡ all_below (taken self.now.g (front_of self.now)) (named self.now.g (front_of self.now)) }
+    {
+        (0..self.taken()).all(|b| self.named(Block(b)))
+    }
+
     fn names_none(&self, b: Block) -> bool
         requires b_lt_blocks { b.0 < self.now.g.blocks }
         ensures { result ≡ names self.now.g (front_of self.now) (no_region self.now.g) 0 b.0 }
@@ -409,16 +417,5 @@ impl Image<'_> {
     {
         let n = self.taken() as usize;
         (n..self.g.blocks).all(|b| self.names_none(Block(b as u16)))
-    }
-}
-
-impl Headed<'_> {
-    ghost use Rattle.image.specs.Views.{front_of};
-
-    // Rule d but for its last sentence.
-    pub fn all_named(&self) -> bool
-        ensures { result ≡ all_below (taken self.now.image.g (front_of self.now.image)) (named self.now.image.g (front_of self.now.image)) }
-    {
-        (0..self.image.taken()).all(|b| self.image.named(Block(b)))
     }
 }

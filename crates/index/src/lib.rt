@@ -8,7 +8,7 @@ ghost use Rattle.paper.specs.Geometry.{slot_at};
 ghost use Rattle.paper.specs.Image.{taken};
 ghost use Rattle.paper.specs.Index.{index_of, start_of, start_in, slot_in};
 ghost use Rattle.paper.specs.WellFormed.{alone};
-ghost use Rattle.rules.specs.Facts.{Rules, Indexed, Entered, slot_for};
+ghost use Rattle.rules.specs.Facts.{Rules, Indexed, slot_for};
 ghost use Rattle.rules.specs.Given.{High};
 ghost use Rattle.image.specs.Views.{front_of};
 ghost use Rattle.index.specs.Slotted.{Tabled};
@@ -27,13 +27,12 @@ pub struct Index<'a> {
     pub ghost indexed: { Indexed g bytes.now },
 }
 
-// An image and the index that is lent with it: refusals 1 to 5 do not apply.
+// An image and the index that is lent with it: refusals 1 to 3 do not apply.
 #[derive(Clone, Copy)]
 pub struct Lent<'a, 'b> {
     pub image: Image<'a>,
     pub index: Index<'b>,
     pub ghost same: { index.g ≡ image.g },
-    pub ghost entered: { Entered image.g image.bytes.now index.bytes.now },
 }
 
 // Tables in which each block below N has a slot, and two may have the same one: rule c holds, and d but for its last sentence.
@@ -191,6 +190,7 @@ impl Lent<'_, '_> {
     }
 
     fn spare_right(&self) -> bool
+        requires image_bound { taken self.now.image.g (front_of self.now.image) ≤ self.now.image.g.blocks }
         ensures { result ≡ all_from (taken self.now.image.g (front_of self.now.image)) self.now.image.g.blocks (spare_right self.now.image.g (front_of self.now.image) self.now.index.bytes.now) }
     {
         let n = self.image.taken() as usize;
@@ -199,7 +199,7 @@ impl Lent<'_, '_> {
 
     // Whether the index says of each region what it needs, and of each block below N where it stands, so that no two name the same pair.
     pub fn witnessed(&self) -> bool
-        requires high { High self.now.image.g (front_of self.now.image) }
+        requires high { High self.now.image.g (front_of self.now.image) × (taken self.now.image.g (front_of self.now.image) ≤ self.now.image.g.blocks) }
         ensures { result ≡ witnessed self.now.image.g (front_of self.now.image) self.now.index.bytes.now }
     {
         self.starts_right() && self.blocks_right() && self.spare_right()

@@ -1,7 +1,8 @@
 // Recovery, and the check of a lent index against what recovery would give.
 #![tactic(auto)]
 
-ghost use Rattle.std.specs.Prelude.{◌≡◌, [], IfOk};
+ghost use Rattle.std.specs.Prelude.{◌≡◌, [], ◌≤◌, IfOk};
+ghost use Rattle.paper.specs.Image.{taken};
 ghost use Rattle.paper.specs.WellFormed.{in_order};
 ghost use Rattle.paper.specs.Calls.{recover};
 ghost use Rattle.paper.specs.Answers.{number_in, answered, plain};
@@ -20,7 +21,7 @@ use paper::{Geometry, Refusal};
 fn loosely(headed: &Headed<'_>) -> bool
     ensures { result ≡ loosely headed.now.image.g (front_of headed.now.image) }
 {
-    headed.image.regions_in_order() && headed.all_named() && headed.image.rule_e()
+    headed.image.regions_in_order() && headed.image.all_named() && headed.image.rule_e()
 }
 
 fn in_order(headed: &Headed<'_>) -> bool
@@ -53,6 +54,7 @@ fn recoverable<'a>(g: Geometry, image: &'a [u8], index: &[u8]) -> Result<Image<'
 // their sum, so that each book fits, and its slots that no two blocks name the same pair.
 #[tactic(auto, unfolding(crate::specs::Refused::vouched))]
 fn vouched(lent: &Lent<'_, '_>) -> bool
+    requires image_bound { taken lent.now.image.g (front_of lent.now.image) ≤ lent.now.image.g.blocks }
     ensures { result ≡ vouched lent.now.image.g (front_of lent.now.image) lent.now.index.bytes.now }
 {
     lent.image.rule_a() && lent.image.reclaimed_whole() && lent.image.rule_e() && lent.witnessed()

@@ -1,9 +1,9 @@
 -- `contents::load` meets its contract: refused, or done.
-use Rattle.std.proofs.Common.{refl, sym, ◌∙◌}
+use Rattle.std.proofs.Common.{sym, ◌∙◌}
 use Rattle.paper.specs.Outcomes.{lent}
 use Rattle.rules.proofs.Lines.{load_number, load_done}
 use Rattle.desk.proofs.Refusing.{outcome_left}
-use Rattle.contents.proofs.Reading.{spot_reads, read_entered, read_image, read_index}
+use Rattle.contents.proofs.Reading.{spot_reads, read_image, read_index}
 use Rattle.contents.proofs.load.Goals as goal
 
 pub returns-in_err-spot : goal.returns-in_err-spot
@@ -14,9 +14,6 @@ invariant_of-lent c = record { readable = read_image _ _ _ _ _ _ _ c.in_ok-spot.
 
 pub invariant_of-lent-2 : goal.invariant_of-lent-2
 invariant_of-lent-2 c = record { indexed = read_index _ _ _ _ _ _ _ c.in_ok-spot.ensures.number }
-
-pub invariant_of-lent-3 : goal.invariant_of-lent-3
-invariant_of-lent-3 c = record { same = refl; entered = read_entered _ _ _ _ _ _ _ c.in_ok-spot.ensures.number }
 
 pub copy_out-requires : goal.copy_out-requires
 copy_out-requires c = spot_reads _ c.in_ok-spot.ensures.number c.in_ok-spot.ensures.spot

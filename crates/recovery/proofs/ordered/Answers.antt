@@ -8,6 +8,16 @@ use Rattle.recovery.proofs.ordered.Goals as goal
 pub returns-in_err-lent : goal.returns-in_err-lent
 returns-in_err-lent c = number_passed _ _ c.from_residual.ensures.1 c.in_err-lent.ensures.number (ordered_stop _ _ _)
 
+pub vouched-requires : goal.vouched-requires
+vouched-requires c =
+    let I = c.in_ok-lent.ensures.lent.of_image in
+    record { image_bound = rw (I.geometry, I.lent) (entered_shown _ _ _ (sym c.in_ok-lent.ensures.number)).header.taken_most }
+
+pub invariant_of-in_order : goal.invariant_of-in_order
+invariant_of-in_order c =
+    let I = c.in_ok-lent.ensures.lent.of_image in
+    record { header = rw (I.geometry, I.lent) (entered_shown _ _ _ (sym c.in_ok-lent.ensures.number)).header }
+
 pub returns-then-vouched : goal.returns-then-vouched
 returns-then-vouched c =
     let L = c.in_ok-lent.ensures.lent in

@@ -6,4 +6,4 @@ use Rattle.recovery.proofs.vouched.Goals as goal
 pub witnessed-requires : goal.witnessed-requires
 witnessed-requires c =
     let kept : c.rule_a.result ≡ true = grind arith in
-    record { high = (rule_a_facts _ _ (sym c.rule_a.ensures ∙ kept)).1 }
+    record { high = ((rule_a_facts _ _ (sym c.rule_a.ensures ∙ kept)).1, c.requires.image_bound) }
