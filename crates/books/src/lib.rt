@@ -73,6 +73,8 @@ pub fn release(g: Geometry, image: &mut [u8], index: &mut [u8], book: Book) -> R
     Ok(())
 }
 
+// ---- grow, step by step. What is written is lent by itself (image says why), so each step asks again what a growth is
+
 // The blocks for so many pages more, and last the page count: until it is written the needs sum to less than N, and recovery refuses.
 fn grow_tables(image: &mut [u8], index: &Index<'_>, region: Region, pages: Pages)
     requires { Growing index.now.g image.old index.now.bytes.now region.0 pages.0 }

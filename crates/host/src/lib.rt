@@ -17,7 +17,7 @@ const VALUE_END: u64 = 1 << 56;
 // 2^16. A region lies below it, and in open's value its edition is counted in it.
 const REGION_END: u64 = 1 << 16;
 
-// A number that names no geometry gives one that no call allows.
+// A number that names no geometry gives one that no call allows, as the paper of hosts has it: each call then refuses with 1 by itself.
 #[tactic(auto, unfolding(crate::specs::Host::geometry_of))]
 pub fn geometry_of(n: u32) -> Geometry
     ensures { result ≡ geometry_of n }

@@ -312,7 +312,8 @@ impl Image<'_> {
         self.edition(r) < paper::LAST_EDITION || !self.is_open(r)
     }
 
-    // Version 2 has no edition to ask for, nor has a region that is not open.
+    // Version 2 has no edition to ask for, nor has a region that is not open. (That none is open from C on is what the check before has just shown,
+    // here and in the index; a type for it would live for that one line.)
     fn all_current(&self) -> bool
         requires high { High self.now.g (front_of self.now) }
         ensures { result ≡ all_below self.now.g.entries (current self.now.g (front_of self.now)) }
@@ -397,7 +398,7 @@ impl Image<'_> {
         before < self.pages(r).0
     }
 
-    // Rule d but for its last sentence.
+    // Rule d but for its last sentence. Of the header it asks that N is at most B and no more, as index does: whoever knows that much may ask.
     pub fn all_named(&self) -> bool
         requires image_bound { taken self.now.g (front_of self.now) ≤ self.now.g.blocks }
         ensures { result ≡ all_below (taken self.now.g (front_of self.now)) (named self.now.g (front_of self.now)) }

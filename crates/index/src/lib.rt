@@ -52,7 +52,7 @@ impl Index<'_> {
         u16::read(self.bytes, self.g.start_at(r))
     }
 
-    // NO_BLOCK in an unused slot.
+    // NO_BLOCK in an unused slot, as the format has it: slots are compared with numbers, and an Option would be taken apart for each.
     pub fn slot(&self, s: usize) -> Block
         requires s_lt_blocks { s < self.now.g.blocks }
         ensures { result.0 ≡ slot_in self.now.g self.now.bytes.now s }

@@ -17,7 +17,7 @@ ghost use Rattle.rules.specs.Facts.{Readable, Indexed, fronted};
 use numbers::Number;
 use paper::{Block, Geometry, Pages, Position, Refusal, Region, Version};
 
-// ---- header and tables
+// ---- header and tables. What is written is lent by itself (image says why)
 
 // C is the first region that can be opened.
 #[tactic(auto, using(rules::proofs::Written::header_put))]

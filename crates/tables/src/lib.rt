@@ -58,6 +58,8 @@ pub fn block_after(index: &Index<'_>, region: Region, s: Stock, p: Position) -> 
     index.slot(start + p.0)
 }
 
+// ---- what is written from here on is lent by itself (image says why)
+
 // Block b, which the grant after j others takes, leaves region 1 or is counted in N.
 fn draw(g: Geometry, image: &mut [u8], s: Stock, j: usize, b: Block)
     requires readable { Readable g image.old }
