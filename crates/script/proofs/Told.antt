@@ -1,16 +1,18 @@
 -- What a record tells, from the promise of the call that it makes.
-use Prim.Native.Nat.{ℕ, ◌≤◌, ◌<◌}
+use Prim.Native.Nat.{ℕ, ◌-◌, ◌≤◌, ◌<◌}
 use mathlib.Core.Path.{◌≡◌, refl, ◌∙◌, ap}
 use mathlib.Core.List.{List, []}
 use native.Mathlib.Omega.{arith}
 use borrow.Author.Tests.{lt-ltb, le-ltb, ne_eqb}
-use lib.ListN.{length, get_or}
+use native.Mathlib.Nat.{sub-zero}
+use lib.ListN.{length, get_or, take, drop, replicate}
+use Rattle.std.proofs.Common.{length-take-le}
 use Rattle.laws.proofs.Bytes.{num_one}
 use Rattle.std.specs.Prelude.{Result, Ok, Err}
 use Rattle.paper.specs.declared.Refusal.{Refusal}
 use Rattle.paper.specs.Answers.{Answer, Done, Refused, no_of, answered, plain}
 use Rattle.paper.specs.Geometry.{bench}
-use Rattle.paper.specs.Calls.{Call, load, size}
+use Rattle.paper.specs.Calls.{Call, load, store, size}
 use Rattle.paper.specs.Outcomes.{State, lent, gives, outcome}
 use Rattle.rules.proofs.Outcomes.{size_any_index}
 use Rattle.paper.specs.Script.{record_bytes, operation_in, region_in, length_in, number_in, operations, tells, sum_of, answer_of, called, most_length, odd, short, among, told}
@@ -32,6 +34,15 @@ module _ (r d o : ℕ) (buffer bytes : List ℕ) (q : Result (Unit {0}) Refusal)
 
   pub load_done : (n : ℕ) → q ≡ Ok tt → n ≡ sum_of bytes → tells (Done n) s ≡ called (load r d o buffer) s
   load_done n e f = rw f (call_kept (load r d o buffer) (Done 0) bytes s s (rw e at kept))
+
+-- so many bytes of a buffer that has them are so many
+pub part_length : (n : ℕ) (xs : List ℕ) → n ≤ length xs → length (take (n - 0) (drop 0 xs)) ≡ n
+part_length n xs h = rw sub-zero (length-take-le n xs h)
+
+-- a store of a fill byte, by way of equal numbers
+pub store_same : {r t o p m n b d : ℕ} (s : State) → r ≡ t → o ≡ p → m ≡ n → b ≡ d
+    → called (store r 0 o (replicate m b)) s ≡ called (store t 0 p (replicate n d)) s
+store_same s e f g h = cc
 
 -- size takes no index, and leaves the one that there is
 pub size_kept : (r d : ℕ) (a : Answer) (image index : List ℕ)
