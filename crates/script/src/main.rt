@@ -257,7 +257,13 @@ fn run(rt: &HostRuntime, image: &mut [u8], index: &mut [u8]) -> io::Result<()>
         if got == 0 {
             break;
         }
-        let line = Line::from(perform(image, index, &bytes[..got]));
+        let told = perform(image, index, &bytes[..got]);
+        let Ok(value) = told else {
+            let line = Line::from(told);
+            println!(rt; "{line}")?;
+            continue;
+        };
+        let line = Line { refusal: 0, value };
         println!(rt; "{line}")?;
     }
     Ok(())
