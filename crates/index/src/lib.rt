@@ -254,7 +254,8 @@ fn mark(seen: &mut [u8], s: usize, one: u8) -> bool
 }
 
 impl Tables<'_> {
-    // The starts of the regions from `first` up to `last`, of which `start` is the first; answers the start after them.
+    // The starts of the regions from `first` up to `last`, of which `start` is the first; answers the start after them. Each is written by its
+    // number: of what an `iter_mut` under `zip` has lent a proof knows nothing afterwards.
     fn read_starts(&self, first: Region, last: Region, start: usize, starts: &mut [u16]) -> usize
         requires first_le_last { (first.0 ≤ last.0) × (last.0 ≤ self.now.image.g.entries) × (last.0 ≤ first.0 + length starts.old) }
         requires start_value { start ≡ start_of self.now.image.g (front_of self.now.image) first.0 }
