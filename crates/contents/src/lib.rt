@@ -5,7 +5,7 @@ ghost use Rattle.std.specs.Prelude.{[], ◌≡◌, ◌+◌, ◌*◌, ◌<◌, �
 ghost use Rattle.paper.specs.Geometry.{most_book_pages};
 ghost use Rattle.paper.specs.Image.{pages_of};
 ghost use Rattle.paper.specs.Calls.{load, store, look};
-ghost use Rattle.paper.specs.Answers.{number_in, answered, plain};
+ghost use Rattle.paper.specs.Answers.{no_in, answered, plain};
 ghost use Rattle.paper.specs.Outcomes.{lent, gives, outcome};
 ghost use Rattle.rules.specs.Lines.{read_no};
 ghost use Rattle.image.specs.Views.{front_of};
@@ -43,7 +43,7 @@ fn read_from(
     offset: Offset,
     n: usize,
 ) -> Result<Spot, Refusal>
-    ensures number { number_in result ≡ read_no g image.now index.now book.region.0 book.edition.0 offset.0 n }
+    ensures number { no_in result ≡ read_no g image.now index.now book.region.0 book.edition.0 offset.0 n }
     ensures spot { IfOk result (λ s. IsSpot g offset.0 s) }
 {
     let lent = desk::entered(g, image, index)?;

@@ -6,7 +6,7 @@ use Rattle.std.proofs.Common.{sym, ◌≢◌, arith}
 use Rattle.paper.specs.declared.Geometry.{Geometry}
 use Rattle.paper.specs.declared.Refusal.{Refusal}
 use Rattle.paper.specs.declared.Refusal.TheVariants.{GeometryWrong, IndexLength, ImageShort, HeaderWrong, TailMissing, TablesWrong, IndexWrong, Unusable, Beyond, NoRoom, NoRegion, NotBlank, TooFewBlocks, Newer, Stale}
-use Rattle.paper.specs.Answers.{Answer, no_of, number_in, answered}
+use Rattle.paper.specs.Answers.{Answer, no_of, no_in, answered}
 use Rattle.paper.specs.Calls.{Call}
 use Rattle.paper.specs.Refusals.{refusal}
 use Rattle.paper.specs.Move.{move_refusal, move_outcome}
@@ -31,14 +31,10 @@ not_done TooFewBlocks = omega arith
 not_done Newer = omega arith
 not_done Stale = omega arith
 
--- ---- a Result that passes refusal k on has its number: where k is what the line's beginning x answers,
+-- ---- a Result that passes refusal k on, which is what the line's beginning x answers, has its number
 module _ {B : Type 0} (r : Result B Refusal) (k : Refusal) where
-  pub number_passed : {x y : ℕ} → IsErrAnd r (λ e. e ≡ k) → no_of k ≡ x → ((n : ℕ) → n ≡ x → n ≢ 0 → y ≡ n) → number_in r ≡ y
+  pub number_passed : {x y : ℕ} → IsErrAnd r (λ e. e ≡ k) → no_of k ≡ x → ((n : ℕ) → n ≡ x → n ≢ 0 → y ≡ n) → no_in r ≡ y
   number_passed h e stop = let p = err_from_is_err_and r h in rw (p.1, p.2) (sym (stop (no_of k) e (not_done k)))
-
-  -- and where it is what the rest of the line answers
-  pub number_left : {y : ℕ} → IsErrAnd r (λ e. e ≡ k) → y ≡ no_of k → number_in r ≡ y
-  number_left h e = let p = err_from_is_err_and r h in rw (p.1, p.2) (sym e)
 
 -- ---- and the call that answers it leaves all as it was
 module _ {B : Type 0} (done : B → Answer) (r : Result B Refusal) (k : Refusal) (g : Geometry) (c : Call) (s : State) where
@@ -53,7 +49,3 @@ module _ {B : Type 0} (done : B → Answer) (r : Result B Refusal) (k : Refusal)
 module _ {B : Type 0} (done : B → Answer) (r : Result B Refusal) (k : Refusal) (g : Geometry) (m : ℕ) (s : State) where
   pub move_left : IsErrAnd r (λ e. e ≡ k) → move_refusal g m s.image s.index ≡ no_of k → gives (answered done r) [] s ≡ move_outcome g m s
   move_left h e = let p = err_from_is_err_and r h in rw (p.1, p.2) (sym (move_refused g m s (no_of k) e (not_done k)))
-
-  pub move_passed : {x : ℕ} → IsErrAnd r (λ e. e ≡ k) → no_of k ≡ x → ((n : ℕ) → n ≡ x → n ≢ 0 → move_refusal g m s.image s.index ≡ n)
-      → gives (answered done r) [] s ≡ move_outcome g m s
-  move_passed h e stop = move_left h (stop (no_of k) e (not_done k))

@@ -6,7 +6,7 @@ ghost use Rattle.paper.specs.Geometry.{capacity};
 ghost use Rattle.paper.specs.Image.{taken, edition_of};
 ghost use Rattle.paper.specs.Calls.{size};
 ghost use Rattle.paper.specs.Refusals.{usable};
-ghost use Rattle.paper.specs.Answers.{number_in, answered, counted};
+ghost use Rattle.paper.specs.Answers.{no_in, answered, counted};
 ghost use Rattle.paper.specs.Outcomes.{lent, gives, outcome};
 ghost use Rattle.rules.specs.Lines.{head_no, whole_no, name_no, book_no, lent_no, indexed_head_no, entered_no};
 ghost use Rattle.image.specs.Views.{front_of, IsImage};
@@ -21,7 +21,7 @@ use paper::{Block, Book, Edition, Geometry, Pages, Refusal, Region};
 // 1, 3, 4.
 #[tactic(auto, unfolding(rules::specs::Lines::head_no, paper::specs::Refusals::first))]
 pub fn head<'a>(g: Geometry, image: &'a [u8]) -> Result<Headed<'a>, Refusal>
-    ensures number { number_in result ≡ head_no g image.now }
+    ensures number { no_in result ≡ head_no g image.now }
     ensures image { IfOk result (λ h. IsImage g image.now h.image) }
 {
     if !g.allowed() {
@@ -40,7 +40,7 @@ pub fn head<'a>(g: Geometry, image: &'a [u8]) -> Result<Headed<'a>, Refusal>
 // 1, 2, 3.
 #[tactic(auto, unfolding(rules::specs::Lines::lent_no, paper::specs::Refusals::first))]
 pub fn lent(g: Geometry, image: &[u8], index: &[u8]) -> Result<(), Refusal>
-    ensures { number_in result ≡ lent_no g image.now index.now }
+    ensures { no_in result ≡ lent_no g image.now index.now }
 {
     if !g.allowed() {
         return Err(Refusal::GeometryWrong);
@@ -57,7 +57,7 @@ pub fn lent(g: Geometry, image: &[u8], index: &[u8]) -> Result<(), Refusal>
 // 1, 2, 3, 4.
 #[tactic(auto, unfolding(rules::specs::Lines::indexed_head_no, rules::specs::Lines::lent_no, paper::specs::Refusals::first))]
 pub fn indexed_head<'a>(g: Geometry, image: &'a [u8], index: &[u8]) -> Result<Headed<'a>, Refusal>
-    ensures number { number_in result ≡ indexed_head_no g image.now index.now }
+    ensures number { no_in result ≡ indexed_head_no g image.now index.now }
     ensures image { IfOk result (λ h. IsImage g image.now h.image) }
 {
     lent(g, image, index)?;
@@ -80,7 +80,7 @@ pub fn tail_missing(headed: &Headed<'_>) -> bool
 // 1, 3, 4, 5.
 #[tactic(auto, unfolding(rules::specs::Lines::whole_no, rules::specs::Lines::head_no, paper::specs::Refusals::first))]
 fn whole<'a>(g: Geometry, image: &'a [u8]) -> Result<Image<'a>, Refusal>
-    ensures number { number_in result ≡ whole_no g image.now }
+    ensures number { no_in result ≡ whole_no g image.now }
     ensures image { IfOk result (λ i. IsImage g image.now i) }
 {
     let headed = head(g, image)?;
@@ -97,7 +97,7 @@ pub fn entered<'a, 'b>(
     image: &'a [u8],
     index: &'b [u8],
 ) -> Result<Lent<'a, 'b>, Refusal>
-    ensures number { number_in result ≡ entered_no g image.now index.now }
+    ensures number { no_in result ≡ entered_no g image.now index.now }
     ensures lent { IfOk result (λ l. IsLent g image.now index.now l) }
 {
     let headed = indexed_head(g, image, index)?;
@@ -129,7 +129,7 @@ pub fn is_edition(image: &Image<'_>, region: Region, edition: Edition) -> bool
 // 8, 18.
 #[tactic(auto, unfolding(rules::specs::Lines::name_no, paper::specs::Refusals::first))]
 pub fn name_book(image: &Image<'_>, book: Book) -> Result<(), Refusal>
-    ensures { number_in result ≡ name_no image.now.g image.now.bytes.now book.region.0 book.edition.0 }
+    ensures { no_in result ≡ name_no image.now.g image.now.bytes.now book.region.0 book.edition.0 }
 {
     if !usable(image, book.region) {
         return Err(Refusal::Unusable);
@@ -143,7 +143,7 @@ pub fn name_book(image: &Image<'_>, book: Book) -> Result<(), Refusal>
 // 8, 18, and 6 for this book alone.
 #[tactic(auto, unfolding(rules::specs::Lines::book_no, rules::specs::Lines::name_no, paper::specs::Refusals::first))]
 pub fn check_book(image: &Image<'_>, book: Book) -> Result<(), Refusal>
-    ensures { number_in result ≡ book_no image.now.g image.now.bytes.now book.region.0 book.edition.0 }
+    ensures { no_in result ≡ book_no image.now.g image.now.bytes.now book.region.0 book.edition.0 }
 {
     name_book(image, book)?;
     if image.g.most_book_pages() < image.pages(book.region) {

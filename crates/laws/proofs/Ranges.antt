@@ -1,7 +1,7 @@
--- What `all`, `any` and `find` give over a range of numbers, as the folds over those numbers. Each takes the call's clause `ran`, that the range is the one
+-- What `all` and `find` give over a range of numbers, as the folds over those numbers. Each takes the call's clause `ran`, that the range is the one
 -- from a up to, and without, e, and what a call of the closure at a number in it gives: p of the number, with the closure as it was.
 use Prim.Native.Nat.{ℕ, ◌+◌, ◌-◌, ◌≤◌, ◌<◌}
-use mathlib.Core.Bool.{Bool, true, false, not}
+use mathlib.Core.Bool.{Bool, true, false}
 use mathlib.Core.Path.{◌≡◌, sym, ◌∙◌, ap, subst}
 use mathlib.Core.List.{List, [], ◌∷◌}
 use native.Mathlib.Omega.{arith}
@@ -12,7 +12,7 @@ use Rattle.std.specs.declared.ops.Range.{Range}
 use Rattle.std.specs.declared.option.Option.{Option}
 use Rattle.std.specs.declared.option.Option.TheVariants.{None, Some}
 use Rattle.std.specs.Fn.{Called, CalledAt}
-use Rattle.std.specs.Iterator.{Yields, YieldsThen, ChecksAll, ChecksAny, FindsItem}
+use Rattle.std.specs.Iterator.{Yields, YieldsThen, ChecksAll, FindsItem}
 use Rattle.std.specs.List.{FoldsTo}
 use Rattle.std.specs.Option.{MatchOption, unwrap_or}
 use Rattle.std.proofs.iter.Yields.{nat_range_steps}
@@ -82,22 +82,6 @@ module _ {F : Type 0} {g : Mut F (ℕ × Unit {0}) Bool} {s u : Range ℕ} {f : 
       → ((x : ℕ) (b : Bool) (q : F) → x < e → Called g f (x, tt) b q → (q ≡ f) × (b ≡ p x))
       → r ≡ all_below e p
   all_to e p ran is tells = all_in_range 0 e p ran is (λ x b q l h c. tells x b q h c) ∙ from_zero e p
-
-  -- false where none passes
-  pub any_in_range : (a e : ℕ) (p : ℕ → Bool) → ChecksAny nat_range_steps g s f r u → s ≡ record { start = a; end = e }
-      → ((x : ℕ) (b : Bool) (q : F) → a ≤ x → x < e → Called g f (x, tt) b q → (q ≡ f) × (b ≡ p x))
-      → not r ≡ all_from a e (λ k. not (p k))
-  any_in_range a e p ran is tells = ends ran.1 it.1 ran.5
-    where
-      it : (ran.2 ≡ f) × MatchOption ran.1 (Along a e p false) (λ x. (a ≤ x) × (x < e) × Along a x p false)
-      it = stopped (λ q x h. Called g q (x, tt) false h) f a e p false (λ x q l h c. let t = tells x false q l h c in (t.0, sym t.1)) u ran.0 ran.1 ran.2 is ran.3 ran.4
-
-      ends : (o : Option ℕ) → MatchOption o (Along a e p false) (λ x. (a ≤ x) × (x < e) × Along a x p false)
-          → MatchOption o (r ≡ false) (λ x. (r ≡ true) × ((h : F) × Called g ran.2 (x, tt) true h)) → not r ≡ all_from a e (λ k. not (p k))
-      ends None w t = ap not t ∙ sym (from_all a e (λ k. not (p k)) (λ k l h. ap not (w k l h)))
-      ends (Some x) w t =
-          let told = tells x true t.1.0 w.0 w.1 (subst (λ z. Called g z (x, tt) true t.1.0) it.0 t.1.1) in
-          ap not t.0 ∙ sym (not_all_from a e (λ k. not (p k)) x w.0 w.1 (ap not (sym told.1)))
 
 -- the lowest that passes
 module _ {F : Type 0} {g : Mut F (Bor ℕ × Unit {0}) Bool} {s : Range ℕ} {f : F} (u : Range ℕ) (r : Option ℕ) where

@@ -10,7 +10,7 @@ ghost use Rattle.paper.specs.Index.{empty_index};
 ghost use Rattle.paper.specs.Calls.{lay, version_number, laid_size};
 ghost use Rattle.paper.specs.Move.{moved_owner, moved_place, moved_size, moved_front};
 ghost use Rattle.paper.specs.Refusals.{blank, refusal};
-ghost use Rattle.paper.specs.Answers.{number_in, answered, plain};
+ghost use Rattle.paper.specs.Answers.{no_in, answered, plain};
 ghost use Rattle.paper.specs.Outcomes.{lent, gives, outcome};
 ghost use Rattle.rules.specs.Facts.{Readable, Indexed, fronted};
 
@@ -170,7 +170,7 @@ fn blank(g: Geometry, image: &[u8]) -> bool
 }
 
 fn layable(g: Geometry, version: Version, image: &[u8], index: &[u8]) -> Result<(), Refusal>
-    ensures { number_in result ≡ refusal g image.now index.now (lay version) }
+    ensures { no_in result ≡ refusal g image.now index.now (lay version) }
 {
     desk::lent(g, image, index)?;
     if !blank(g, image) {

@@ -4,7 +4,7 @@
 ghost use Rattle.std.specs.Prelude.{◌≡◌, [], ◌≤◌, length};
 ghost use Rattle.paper.specs.Geometry.{need, capacity};
 ghost use Rattle.paper.specs.Move.{moved_data, move_refusal, move_outcome};
-ghost use Rattle.paper.specs.Answers.{number_in, answered, plain};
+ghost use Rattle.paper.specs.Answers.{no_in, answered, plain};
 ghost use Rattle.paper.specs.Outcomes.{lent, gives};
 ghost use Rattle.rules.specs.Facts.{Readable};
 
@@ -13,7 +13,7 @@ use paper::{Block, Geometry, Pages, Refusal, Version};
 
 // 1, 2, 3, 13.
 fn movable(g: Geometry, image: &[u8], index: &[u8], pages: Pages) -> Result<(), Refusal>
-    ensures { number_in result ≡ move_refusal g pages.0 image.now index.now }
+    ensures { no_in result ≡ move_refusal g pages.0 image.now index.now }
 {
     desk::lent(g, image, index)?;
     let room = g.capacity(image.len()) as u64;

@@ -32,9 +32,9 @@ no_of Newer = 16
 no_of Stale = 18
 
 -- the number that a Result says: 0 is done
-abbrev pub number_in : {A : Type 0} → Result A Refusal → ℕ
-number_in (Ok x) = 0
-number_in (Err k) = no_of k
+abbrev pub no_in : {A : Type 0} → Result A Refusal → ℕ
+no_in (Ok x) = 0
+no_in (Err k) = no_of k
 
 -- the answer that it says, where `done` is what the paper has for its value
 abbrev pub answered : {A : Type 0} → (A → Answer) → Result A Refusal → Answer

@@ -5,7 +5,7 @@ ghost use Rattle.std.specs.Prelude.{◌≡◌, [], ◌≤◌, IfOk};
 ghost use Rattle.paper.specs.Image.{taken};
 ghost use Rattle.paper.specs.WellFormed.{in_order};
 ghost use Rattle.paper.specs.Calls.{recover};
-ghost use Rattle.paper.specs.Answers.{number_in, answered, plain};
+ghost use Rattle.paper.specs.Answers.{no_in, answered, plain};
 ghost use Rattle.paper.specs.Outcomes.{lent, gives, outcome};
 ghost use Rattle.paper.specs.Refusals.{refusal};
 ghost use Rattle.rules.specs.Lines.{ordered_no};
@@ -34,7 +34,7 @@ fn in_order(headed: &Headed<'_>) -> bool
 // 1 to 4, 16, 5, 6.
 #[tactic(auto, unfolding(paper::specs::Refusals::checks, paper::specs::Refusals::first, rules::specs::Lines::indexed_head_no))]
 fn recoverable<'a>(g: Geometry, image: &'a [u8], index: &[u8]) -> Result<Image<'a>, Refusal>
-    ensures number { number_in result ≡ refusal g image.now index.now recover }
+    ensures number { no_in result ≡ refusal g image.now index.now recover }
     ensures image { IfOk result (λ i. IsImage g image.now i) }
 {
     let headed = desk::indexed_head(g, image, index)?;
@@ -63,7 +63,7 @@ fn vouched(lent: &Lent<'_, '_>) -> bool
 // 1 to 7. Only where the index is not its own witness are the rules asked of the tables alone, to tell 6 from 7.
 #[tactic(auto, unfolding(rules::specs::Lines::ordered_no, rules::specs::Lines::entered_no, paper::specs::Refusals::first))]
 pub fn ordered(g: Geometry, image: &[u8], index: &[u8]) -> Result<(), Refusal>
-    ensures { number_in result ≡ ordered_no g image.now index.now }
+    ensures { no_in result ≡ ordered_no g image.now index.now }
 {
     let lent = desk::entered(g, image, index)?;
     if vouched(&lent) {
