@@ -52,7 +52,7 @@ pub fn page(rows: &[Row], machine: &str) -> String {
          - Open, grow, release, recover: every block of the image is taken, in any order, with half as many regions given out as there are \
          blocks. Grow is by one page for which the book needs another block. The book that is released has six.\n\
          - Lay and move: in the same image. The memory that is moved takes up all of it but the last block, to which its first goes.\n\
-         - The copying leaf is the loop that loads and stores copy with, against `copy_from_slice`; the all-zero leaf is recovery's look at \
+         - The copying leaf is what loads and stores copy with, against `copy_from_slice`; the all-zero leaf is recovery's look at \
          the reserve, against a fold of the same bytes.\n\n\
          ## As an image grows\n\n\
          Open and recover look at every entry of both tables, whoever holds the blocks: a cost that is always there, and one by the block. \

@@ -1,5 +1,5 @@
-// The calls over any four numbers for a geometry, for tests and measurements alone: as host's, with the four in place of a geometry's
-// number. No call asks that they be allowed.
+// The calls over any four numbers for a geometry, for tests and measurements alone: those of host, each exported under its own name with its
+// own promise. No call asks that the four be allowed.
 #![tactic(auto)]
 
 ghost use Rattle.std.specs.Prelude.{◌≡◌, []};
@@ -10,7 +10,8 @@ ghost use Rattle.paper.specs.Outcomes.{lent, outcome};
 ghost use Rattle.host.specs.Host.{sees, host_sees};
 ghost use Rattle.any.specs.Any.{given};
 
-use paper::{Edition, Geometry, Offset, Pages, Region, Version};
+use host::book_of;
+use paper::{Geometry, Offset, Pages, Version};
 
 // Page bytes, pages in a block, blocks, region entries.
 fn given(page: u64, pages: u64, blocks: u64, entries: u64) -> Geometry
@@ -35,12 +36,12 @@ pub extern "C" fn any_lay(
 ) -> u64
     ensures { sees result [] (lent image.new index.new) ≡ host_sees (outcome (given page pages blocks entries) (lay Three) (lent image.old index.old)) }
 {
-    host::pack(laying::lay(
+    host::lay(
         given(page, pages, blocks, entries),
         Version::Three,
         image,
         index,
-    ))
+    )
 }
 
 #[unsafe(no_mangle)]
@@ -54,12 +55,12 @@ pub extern "C" fn any_lay_version_2(
 ) -> u64
     ensures { sees result [] (lent image.new index.new) ≡ host_sees (outcome (given page pages blocks entries) (lay Two) (lent image.old index.old)) }
 {
-    host::pack(laying::lay(
+    host::lay(
         given(page, pages, blocks, entries),
         Version::Two,
         image,
         index,
-    ))
+    )
 }
 
 #[unsafe(no_mangle)]
@@ -74,12 +75,12 @@ pub extern "C" fn any_move(
 ) -> u64
     ensures { sees result [] (lent image.new index.new) ≡ host_sees (move_outcome (given page pages blocks entries) old (lent image.old index.old)) }
 {
-    host::pack(moving::move_over(
+    host::move_over(
         given(page, pages, blocks, entries),
         image,
         index,
         Pages(old),
-    ))
+    )
 }
 
 #[unsafe(no_mangle)]
@@ -93,7 +94,7 @@ pub extern "C" fn any_open(
 ) -> u64
     ensures { sees result [] (lent image.new index.new) ≡ host_sees (outcome (given page pages blocks entries) «open» (lent image.old index.old)) }
 {
-    host::pack(books::open(given(page, pages, blocks, entries), image, index))
+    host::open(given(page, pages, blocks, entries), image, index)
 }
 
 #[unsafe(no_mangle)]
@@ -110,14 +111,13 @@ pub extern "C" fn any_grow(
 ) -> u64
     ensures { sees result [] (lent image.new index.new) ≡ host_sees (outcome (given page pages blocks entries) (grow region edition more) (lent image.old index.old)) }
 {
-    host::pack(books::grow(
+    host::grow(
         given(page, pages, blocks, entries),
         image,
         index,
-        Region(region),
-        Edition(edition),
+        book_of(region, edition),
         Pages(more),
-    ))
+    )
 }
 
 #[unsafe(no_mangle)]
@@ -135,15 +135,14 @@ pub extern "C" fn any_load(
 ) -> u64
     ensures { sees result buffer.new (lent image.now index.now) ≡ host_sees (outcome (given page pages blocks entries) (load region edition offset buffer.old) (lent image.now index.now)) }
 {
-    host::pack(contents::load(
+    host::load(
         given(page, pages, blocks, entries),
         image,
         index,
-        Region(region),
-        Edition(edition),
+        book_of(region, edition),
         Offset(offset),
         buffer,
-    ))
+    )
 }
 
 #[unsafe(no_mangle)]
@@ -161,15 +160,14 @@ pub extern "C" fn any_store(
 ) -> u64
     ensures { sees result [] (lent image.new index.now) ≡ host_sees (outcome (given page pages blocks entries) (store region edition offset bytes.now) (lent image.old index.now)) }
 {
-    host::pack(contents::store(
+    host::store(
         given(page, pages, blocks, entries),
         image,
         index,
-        Region(region),
-        Edition(edition),
+        book_of(region, edition),
         Offset(offset),
         bytes,
-    ))
+    )
 }
 
 #[unsafe(no_mangle)]
@@ -184,12 +182,11 @@ pub extern "C" fn any_size(
 ) -> u64
     ensures { sees result [] (lent image.now []) ≡ host_sees (outcome (given page pages blocks entries) (size region edition) (lent image.now [])) }
 {
-    host::pack(desk::size(
+    host::size(
         given(page, pages, blocks, entries),
         image,
-        Region(region),
-        Edition(edition),
-    ))
+        book_of(region, edition),
+    )
 }
 
 #[unsafe(no_mangle)]
@@ -205,13 +202,12 @@ pub extern "C" fn any_release(
 ) -> u64
     ensures { sees result [] (lent image.new index.new) ≡ host_sees (outcome (given page pages blocks entries) (release region edition) (lent image.old index.old)) }
 {
-    host::pack(books::release(
+    host::release(
         given(page, pages, blocks, entries),
         image,
         index,
-        Region(region),
-        Edition(edition),
-    ))
+        book_of(region, edition),
+    )
 }
 
 #[unsafe(no_mangle)]
@@ -225,5 +221,5 @@ pub extern "C" fn any_recover(
 ) -> u64
     ensures { sees result [] (lent image.now index.new) ≡ host_sees (outcome (given page pages blocks entries) recover (lent image.now index.old)) }
 {
-    host::pack(recovery::recover(given(page, pages, blocks, entries), image, index))
+    host::recover(given(page, pages, blocks, entries), image, index)
 }

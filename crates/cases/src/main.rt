@@ -1,660 +1,502 @@
 // The bench table through the compiled calls: a line for each case, with eight of the house after them, and case 11 amended for version 3.
-// The table is walked row by row, and a case holds where each of its rows does.
+// A case's table is walked step by step, and a case holds where each of its steps does.
 #![tactic(auto)]
 
-use paper::{Answer, Edition, Geometry, Offset, Pages, Region, Version};
+use paper::{Book, Edition, Geometry, Offset, Pages, Refusal, Region, Version};
 use std::io;
 
 const G: Geometry = Geometry::BENCH;
 
-// What a row does: a call, which answers the row's refusal and value, a lay of version 2, a recovery from a copy of the image cut to so many bytes,
-const LAY: u64 = 0;
+// How many bytes a number has.
+#[derive(Clone, Copy)]
+enum Width {
+    One = 1,
+    Two = 2,
+    Four = 4,
+}
 
-const OPEN: u64 = 1;
+// A step is a call, with what it is given and what it answers; or a change by hand; or a check of what stands in image or index.
+#[derive(Clone, Copy)]
+enum Step {
+    Lay(Version, Result<(), Refusal>),
+    Move(Pages, Result<(), Refusal>),
+    Open(Result<Book, Refusal>),
+    Grow(Book, Pages, Result<Pages, Refusal>),
+    // So many of the bytes 1, 2, 3 and so on.
+    Store(Book, Offset, usize, Result<(), Refusal>),
+    // So many bytes, and the number that they make.
+    Load(Book, Offset, usize, Result<u64, Refusal>),
+    Release(Book, Result<(), Refusal>),
+    Size(Book, Result<Pages, Refusal>),
+    // From a copy of the image cut to so many bytes.
+    Recover(usize, Result<(), Refusal>),
+    // The part that is handed back.
+    Look(Book, Offset, &'static [u8]),
+    // Image and index are all zero.
+    Zero,
+    // The index is all zero.
+    Wipe,
+    // One byte of the image.
+    Put(Offset, u8),
+    // From there on the image has so many numbers of that width, and each is this one.
+    Has(Width, Offset, usize, u64),
+    // The same of the index, whose numbers have two bytes.
+    Index(Offset, usize, u64),
+}
 
-const GROW: u64 = 2;
+// A book by its region, and by its edition where that is not 0. It is a macro, since a constant's value can call no function.
+macro_rules! book {
+    ($region:expr) => {
+        book!($region, 0)
+    };
+    ($region:expr, $edition:expr) => {
+        Book {
+            region: Region($region),
+            edition: Edition($edition),
+        }
+    };
+}
 
-const STORE: u64 = 3;
-
-const LOAD: u64 = 4;
-
-const RELEASE: u64 = 5;
-
-const RECOVER: u64 = 6;
-
-const SIZE: u64 = 7;
-
-// or a look, which hands back a part of that length whose bytes are the value,
-const LOOK: u64 = 8;
-
-// or a change by hand: image and index all zero, the index all zero, or one byte of the image,
-const ZERO: u64 = 9;
-
-const WIPE: u64 = 10;
-
-const PUT: u64 = 11;
-
-// or a check that so many numbers from the offset on, of 1, 2 or 4 bytes in the image or of 2 in the index, are the value.
-const HAS1: u64 = 12;
-
-const HAS2: u64 = 13;
-
-const HAS4: u64 = 14;
-
-const INDEX: u64 = 15;
-
-// A move of an older memory of so many pages is a call too.
-const MOVE: u64 = 16;
-
-// So is a lay of version 3.
-const LAY_3: u64 = 17;
-
-// The columns of a row, in their order. A book is one number: its region, and its edition above the region's two bytes. The number is pages,
-// an offset, or the bytes of a copy.
-const CASE: usize = 0;
-
-const DOES: usize = 1;
-
-const BOOK: usize = 2;
-
-const NUMBER: usize = 3;
-
-const LENGTH: usize = 4;
-
-const REFUSAL: usize = 5;
-
-const VALUE: usize = 6;
-
-// The table in parts, one to a function: what is to be proved of a function grows faster than its rows do.
 // A block's entry, as one number, is its position and then its region.
-const CASES_1_TO_3: [[u64; 7]; 15] = [
-    [1, LAY, 0, 0, 0, 0, 0],
-    [1, HAS4, 0, 0, 1, 0, 0],
-    [1, HAS4, 0, 4, 1, 0, 2],
-    [1, HAS2, 0, 8, 1, 0, 0],
-    [1, HAS2, 0, 10, 1, 0, 16],
-    [1, HAS4, 0, 12, 1, 0, 0],
-    [1, HAS4, 0, 16, 16, 0, 0x00000017],
-    [1, LAY, 0, 0, 0, 12, 0],
-    [2, OPEN, 0, 0, 0, 0, 16],
-    [2, OPEN, 0, 0, 0, 0, 17],
-    [3, GROW, 16, 8, 0, 0, 0],
-    [3, GROW, 17, 8, 0, 0, 0],
-    [3, GROW, 16, 1, 0, 0, 8],
-    [3, HAS2, 0, 8, 1, 0, 3],
-    [3, HAS4, 0, 24, 1, 0, 0x00010010],
+const CASE_1: [Step; 8] = [
+    Step::Lay(Version::Two, Ok(())),
+    Step::Has(Width::Four, Offset(0), 1, 0),
+    Step::Has(Width::Four, Offset(4), 1, 2),
+    Step::Has(Width::Two, Offset(8), 1, 0),
+    Step::Has(Width::Two, Offset(10), 1, 16),
+    Step::Has(Width::Four, Offset(12), 1, 0),
+    Step::Has(Width::Four, Offset(16), 16, 0x00000017),
+    Step::Lay(Version::Two, Err(Refusal::NotBlank)),
 ];
 
-const CASES_4_TO_6: [[u64; 7]; 19] = [
-    [4, INDEX, 0, 0, 17, 0, 0],
-    [4, INDEX, 0, 34, 1, 0, 2],
-    [4, INDEX, 0, 36, 7, 0, 3],
-    [4, INDEX, 0, 50, 1, 0, 0],
-    [4, INDEX, 0, 52, 1, 0, 2],
-    [4, INDEX, 0, 54, 1, 0, 1],
-    [4, INDEX, 0, 56, 13, 0, 65535],
-    [5, STORE, 16, 510, 4, 0, 0],
-    [5, HAS1, 0, 1021, 1, 0, 0],
-    [5, HAS2, 0, 1022, 1, 0, 0x0201],
-    [5, HAS1, 0, 1024, 1, 0, 0],
-    [5, HAS1, 0, 1535, 1, 0, 0],
-    [5, HAS2, 0, 1536, 1, 0, 0x0403],
-    [5, HAS1, 0, 1538, 1, 0, 0],
-    [5, LOOK, 16, 510, 2, 0, 0x0201],
-    [6, LOAD, 16, 575, 1, 0, 0],
-    [6, LOAD, 16, 576, 0, 0, 0],
-    [6, LOAD, 16, 576, 1, 9, 0],
-    [6, LOAD, 16, 577, 0, 9, 0],
+const CASE_2: [Step; 2] = [Step::Open(Ok(book!(16))), Step::Open(Ok(book!(17)))];
+
+const CASE_3: [Step; 5] = [
+    Step::Grow(book!(16), Pages(8), Ok(Pages(0))),
+    Step::Grow(book!(17), Pages(8), Ok(Pages(0))),
+    Step::Grow(book!(16), Pages(1), Ok(Pages(8))),
+    Step::Has(Width::Two, Offset(8), 1, 3),
+    Step::Has(Width::Four, Offset(24), 1, 0x00010010),
 ];
 
-const CASES_7_TO_10: [[u64; 7]; 17] = [
-    [7, WIPE, 0, 0, 0, 0, 0],
-    [7, RECOVER, 0, 2047, 0, 5, 0],
-    [7, INDEX, 0, 0, 41, 0, 0],
-    [7, RECOVER, 0, 2048, 0, 0, 0],
-    [8, RELEASE, 16, 0, 0, 0, 0],
-    [8, HAS4, 0, 16, 1, 0, 0x00000001],
-    [8, HAS4, 0, 24, 1, 0, 0x00010001],
-    [8, HAS4, 0, 88, 1, 0, 16],
-    [8, HAS4, 0, 92, 1, 0, 0],
-    [9, GROW, 17, 1, 0, 0, 8],
-    [9, HAS4, 0, 24, 1, 0, 0x00010011],
-    [9, HAS2, 0, 8, 1, 0, 3],
-    [9, HAS1, 0, 1536, 64, 0, 0],
-    [10, GROW, 17, 120, 0, 10, 0],
-    [10, GROW, 17, 18446744073709551615, 0, 10, 0],
-    [10, GROW, 17, 0, 0, 0, 9],
-    [10, GROW, 17, 119, 0, 0, 9],
+const CASE_4: [Step; 7] = [
+    Step::Index(Offset(0), 17, 0),
+    Step::Index(Offset(34), 1, 2),
+    Step::Index(Offset(36), 7, 3),
+    Step::Index(Offset(50), 1, 0),
+    Step::Index(Offset(52), 1, 2),
+    Step::Index(Offset(54), 1, 1),
+    Step::Index(Offset(56), 13, 65535),
 ];
 
-const CASES_11_TO_12: [[u64; 7]; 21] = [
-    [11, ZERO, 0, 0, 0, 0, 0],
-    [11, LAY, 0, 0, 0, 0, 0],
-    [11, OPEN, 0, 0, 0, 0, 16],
-    [11, OPEN, 0, 0, 0, 0, 17],
-    [11, OPEN, 0, 0, 0, 0, 18],
-    [11, OPEN, 0, 0, 0, 0, 19],
-    [11, OPEN, 0, 0, 0, 0, 20],
-    [11, OPEN, 0, 0, 0, 0, 21],
-    [11, OPEN, 0, 0, 0, 0, 22],
-    [11, OPEN, 0, 0, 0, 11, 0],
-    [11, RELEASE, 18, 0, 0, 0, 0],
-    [11, OPEN, 0, 0, 0, 0, 18],
+const CASE_5: [Step; 8] = [
+    Step::Store(book!(16), Offset(510), 4, Ok(())),
+    Step::Has(Width::One, Offset(1021), 1, 0),
+    Step::Has(Width::Two, Offset(1022), 1, 0x0201),
+    Step::Has(Width::One, Offset(1024), 1, 0),
+    Step::Has(Width::One, Offset(1535), 1, 0),
+    Step::Has(Width::Two, Offset(1536), 1, 0x0403),
+    Step::Has(Width::One, Offset(1538), 1, 0),
+    Step::Look(book!(16), Offset(510), &[1, 2]),
+];
+
+const CASE_6: [Step; 4] = [
+    Step::Load(book!(16), Offset(575), 1, Ok(0)),
+    Step::Load(book!(16), Offset(576), 0, Ok(0)),
+    Step::Load(book!(16), Offset(576), 1, Err(Refusal::Beyond)),
+    Step::Load(book!(16), Offset(577), 0, Err(Refusal::Beyond)),
+];
+
+const CASE_7: [Step; 4] = [
+    Step::Wipe,
+    Step::Recover(2047, Err(Refusal::TailMissing)),
+    Step::Index(Offset(0), 41, 0),
+    Step::Recover(2048, Ok(())),
+];
+
+const CASE_8: [Step; 5] = [
+    Step::Release(book!(16), Ok(())),
+    Step::Has(Width::Four, Offset(16), 1, 0x00000001),
+    Step::Has(Width::Four, Offset(24), 1, 0x00010001),
+    Step::Has(Width::Four, Offset(88), 1, 16),
+    Step::Has(Width::Four, Offset(92), 1, 0),
+];
+
+const CASE_9: [Step; 4] = [
+    Step::Grow(book!(17), Pages(1), Ok(Pages(8))),
+    Step::Has(Width::Four, Offset(24), 1, 0x00010011),
+    Step::Has(Width::Two, Offset(8), 1, 3),
+    Step::Has(Width::One, Offset(1536), 64, 0),
+];
+
+const CASE_10: [Step; 4] = [
+    Step::Grow(book!(17), Pages(120), Err(Refusal::NoRoom)),
+    Step::Grow(book!(17), Pages(18446744073709551615), Err(Refusal::NoRoom)),
+    Step::Grow(book!(17), Pages(0), Ok(Pages(9))),
+    Step::Grow(book!(17), Pages(119), Ok(Pages(9))),
+];
+
+const CASE_11: [Step; 12] = [
+    Step::Zero,
+    Step::Lay(Version::Two, Ok(())),
+    Step::Open(Ok(book!(16))),
+    Step::Open(Ok(book!(17))),
+    Step::Open(Ok(book!(18))),
+    Step::Open(Ok(book!(19))),
+    Step::Open(Ok(book!(20))),
+    Step::Open(Ok(book!(21))),
+    Step::Open(Ok(book!(22))),
+    Step::Open(Err(Refusal::NoRegion)),
+    Step::Release(book!(18), Ok(())),
+    Step::Open(Ok(book!(18))),
+];
+
+const CASE_12: [Step; 9] = [
     // Case 4's image with block 0's entry changed, so that two blocks name one position.
-    [12, ZERO, 0, 0, 0, 0, 0],
-    [12, LAY, 0, 0, 0, 0, 0],
-    [12, OPEN, 0, 0, 0, 0, 16],
-    [12, OPEN, 0, 0, 0, 0, 17],
-    [12, GROW, 16, 8, 0, 0, 0],
-    [12, GROW, 17, 8, 0, 0, 0],
-    [12, GROW, 16, 1, 0, 0, 8],
-    [12, PUT, 0, 16, 0, 0, 0x11],
-    [12, RECOVER, 0, 8704, 0, 6, 0],
+    Step::Zero,
+    Step::Lay(Version::Two, Ok(())),
+    Step::Open(Ok(book!(16))),
+    Step::Open(Ok(book!(17))),
+    Step::Grow(book!(16), Pages(8), Ok(Pages(0))),
+    Step::Grow(book!(17), Pages(8), Ok(Pages(0))),
+    Step::Grow(book!(16), Pages(1), Ok(Pages(8))),
+    Step::Put(Offset(16), 0x11),
+    Step::Recover(8704, Err(Refusal::TablesWrong)),
 ];
 
-const CASE_13: [[u64; 7]; 12] = [
+const CASE_13: [Step; 12] = [
     // A page grown inside a held block shows nothing of the book that had the block before.
-    [13, ZERO, 0, 0, 0, 0, 0],
-    [13, LAY, 0, 0, 0, 0, 0],
-    [13, GROW, 0, 8, 0, 0, 0],
-    [13, OPEN, 0, 0, 0, 0, 16],
-    [13, GROW, 16, 8, 0, 0, 0],
-    [13, STORE, 16, 60, 16, 0, 0],
-    [13, RELEASE, 16, 0, 0, 0, 0],
-    [13, GROW, 0, 1, 0, 0, 8],
-    [13, HAS4, 0, 1084, 1, 0, 0],
-    [13, HAS4, 0, 1088, 1, 0, 0x08070605],
-    [13, GROW, 0, 1, 0, 0, 9],
-    [13, HAS4, 0, 1084, 2, 0, 0],
+    Step::Zero,
+    Step::Lay(Version::Two, Ok(())),
+    Step::Grow(book!(0), Pages(8), Ok(Pages(0))),
+    Step::Open(Ok(book!(16))),
+    Step::Grow(book!(16), Pages(8), Ok(Pages(0))),
+    Step::Store(book!(16), Offset(60), 16, Ok(())),
+    Step::Release(book!(16), Ok(())),
+    Step::Grow(book!(0), Pages(1), Ok(Pages(8))),
+    Step::Has(Width::Four, Offset(1084), 1, 0),
+    Step::Has(Width::Four, Offset(1088), 1, 0x08070605),
+    Step::Grow(book!(0), Pages(1), Ok(Pages(9))),
+    Step::Has(Width::Four, Offset(1084), 2, 0),
 ];
 
-const CASE_14: [[u64; 7]; 3] = [
+const CASE_14: [Step; 3] = [
     // An image of three data blocks, though the geometry has sixteen, has room for three.
-    [14, LAY, 0, 0, 0, 0, 0],
-    [14, GROW, 0, 25, 0, 10, 0],
-    [14, GROW, 0, 24, 0, 0, 0],
+    Step::Lay(Version::Two, Ok(())),
+    Step::Grow(book!(0), Pages(25), Err(Refusal::NoRoom)),
+    Step::Grow(book!(0), Pages(24), Ok(Pages(0))),
 ];
 
-const CASES_15_TO_16: [[u64; 7]; 23] = [
+const CASE_15: [Step; 11] = [
     // A second release goes after the first: blocks 0 and 1, then block 2.
-    [15, ZERO, 0, 0, 0, 0, 0],
-    [15, LAY, 0, 0, 0, 0, 0],
-    [15, OPEN, 0, 0, 0, 0, 16],
-    [15, OPEN, 0, 0, 0, 0, 17],
-    [15, GROW, 16, 16, 0, 0, 0],
-    [15, GROW, 17, 1, 0, 0, 0],
-    [15, RELEASE, 16, 0, 0, 0, 0],
-    [15, RELEASE, 17, 0, 0, 0, 0],
-    [15, HAS4, 0, 16, 1, 0, 0x00000001],
-    [15, HAS4, 0, 20, 1, 0, 0x00010001],
-    [15, HAS4, 0, 24, 1, 0, 0x00020001],
+    Step::Zero,
+    Step::Lay(Version::Two, Ok(())),
+    Step::Open(Ok(book!(16))),
+    Step::Open(Ok(book!(17))),
+    Step::Grow(book!(16), Pages(16), Ok(Pages(0))),
+    Step::Grow(book!(17), Pages(1), Ok(Pages(0))),
+    Step::Release(book!(16), Ok(())),
+    Step::Release(book!(17), Ok(())),
+    Step::Has(Width::Four, Offset(16), 1, 0x00000001),
+    Step::Has(Width::Four, Offset(20), 1, 0x00010001),
+    Step::Has(Width::Four, Offset(24), 1, 0x00020001),
+];
+
+const CASE_16: [Step; 12] = [
     // Blocks taken from region 1 come highest position first, so that a book's blocks need not be in the image's order: 1, 2, 0.
-    [16, ZERO, 0, 0, 0, 0, 0],
-    [16, LAY, 0, 0, 0, 0, 0],
-    [16, OPEN, 0, 0, 0, 0, 16],
-    [16, OPEN, 0, 0, 0, 0, 17],
-    [16, GROW, 16, 8, 0, 0, 0],
-    [16, GROW, 17, 8, 0, 0, 0],
-    [16, GROW, 16, 1, 0, 0, 8],
-    [16, RELEASE, 16, 0, 0, 0, 0],
-    [16, GROW, 17, 16, 0, 0, 8],
-    [16, INDEX, 0, 50, 1, 0, 1],
-    [16, INDEX, 0, 52, 1, 0, 2],
-    [16, INDEX, 0, 54, 1, 0, 0],
+    Step::Zero,
+    Step::Lay(Version::Two, Ok(())),
+    Step::Open(Ok(book!(16))),
+    Step::Open(Ok(book!(17))),
+    Step::Grow(book!(16), Pages(8), Ok(Pages(0))),
+    Step::Grow(book!(17), Pages(8), Ok(Pages(0))),
+    Step::Grow(book!(16), Pages(1), Ok(Pages(8))),
+    Step::Release(book!(16), Ok(())),
+    Step::Grow(book!(17), Pages(16), Ok(Pages(8))),
+    Step::Index(Offset(50), 1, 1),
+    Step::Index(Offset(52), 1, 2),
+    Step::Index(Offset(54), 1, 0),
 ];
 
-const CASE_17: [[u64; 7]; 23] = [
+const CASE_17: [Step; 23] = [
     // An image whose region 2, kept back, has nine pages in blocks 0 and 1: recovery takes it, and its two blocks come first.
-    [17, ZERO, 0, 0, 0, 0, 0],
-    [17, LAY, 0, 0, 0, 0, 0],
-    [17, PUT, 0, 8, 0, 0, 2],
-    [17, PUT, 0, 16, 0, 0, 2],
-    [17, PUT, 0, 20, 0, 0, 2],
-    [17, PUT, 0, 22, 0, 0, 1],
-    [17, PUT, 0, 96, 0, 0, 9],
-    [17, PUT, 0, 512, 0, 0, 0x5a],
-    [17, PUT, 0, 1087, 0, 0, 0xa5],
-    [17, RECOVER, 0, 8704, 0, 0, 0],
-    [17, INDEX, 0, 0, 3, 0, 0],
-    [17, INDEX, 0, 6, 22, 0, 2],
-    [17, INDEX, 0, 50, 1, 0, 0],
-    [17, INDEX, 0, 52, 1, 0, 1],
-    [17, INDEX, 0, 54, 14, 0, 65535],
+    Step::Zero,
+    Step::Lay(Version::Two, Ok(())),
+    Step::Put(Offset(8), 2),
+    Step::Put(Offset(16), 2),
+    Step::Put(Offset(20), 2),
+    Step::Put(Offset(22), 1),
+    Step::Put(Offset(96), 9),
+    Step::Put(Offset(512), 0x5a),
+    Step::Put(Offset(1087), 0xa5),
+    Step::Recover(8704, Ok(())),
+    Step::Index(Offset(0), 3, 0),
+    Step::Index(Offset(6), 22, 2),
+    Step::Index(Offset(50), 1, 0),
+    Step::Index(Offset(52), 1, 1),
+    Step::Index(Offset(54), 14, 65535),
     // It is nobody's to call.
-    [17, SIZE, 2, 0, 0, 8, 0],
-    [17, LOAD, 2, 0, 1, 8, 0],
-    [17, LOOK, 2, 0, 0, 0, 0],
-    [17, STORE, 2, 0, 1, 8, 0],
-    [17, GROW, 2, 1, 0, 8, 0],
-    [17, RELEASE, 2, 0, 0, 8, 0],
+    Step::Size(book!(2), Err(Refusal::Unusable)),
+    Step::Load(book!(2), Offset(0), 1, Err(Refusal::Unusable)),
+    Step::Look(book!(2), Offset(0), &[]),
+    Step::Store(book!(2), Offset(0), 1, Err(Refusal::Unusable)),
+    Step::Grow(book!(2), Pages(1), Err(Refusal::Unusable)),
+    Step::Release(book!(2), Err(Refusal::Unusable)),
     // Its first byte and its last are as they were.
-    [17, HAS1, 0, 512, 1, 0, 0x5a],
-    [17, HAS1, 0, 1087, 1, 0, 0xa5],
+    Step::Has(Width::One, Offset(512), 1, 0x5a),
+    Step::Has(Width::One, Offset(1087), 1, 0xa5),
 ];
 
-const CASE_18: [[u64; 7]; 20] = [
+const CASE_18: [Step; 20] = [
     // Beside case 17's region 2 a book may have the other fourteen blocks, and not one more.
-    [18, OPEN, 0, 0, 0, 0, 16],
-    [18, GROW, 16, 113, 0, 10, 0],
-    [18, GROW, 16, 112, 0, 0, 0],
-    [18, SIZE, 16, 0, 0, 0, 112],
-    [18, GROW, 16, 1, 0, 10, 0],
-    [18, GROW, 0, 1, 0, 10, 0],
-    [18, STORE, 16, 0, 16, 0, 0],
-    [18, HAS2, 0, 8, 1, 0, 16],
-    [18, RELEASE, 16, 0, 0, 0, 0],
-    [18, GROW, 0, 113, 0, 10, 0],
-    [18, GROW, 0, 112, 0, 0, 0],
+    Step::Open(Ok(book!(16))),
+    Step::Grow(book!(16), Pages(113), Err(Refusal::NoRoom)),
+    Step::Grow(book!(16), Pages(112), Ok(Pages(0))),
+    Step::Size(book!(16), Ok(Pages(112))),
+    Step::Grow(book!(16), Pages(1), Err(Refusal::NoRoom)),
+    Step::Grow(book!(0), Pages(1), Err(Refusal::NoRoom)),
+    Step::Store(book!(16), Offset(0), 16, Ok(())),
+    Step::Has(Width::Two, Offset(8), 1, 16),
+    Step::Release(book!(16), Ok(())),
+    Step::Grow(book!(0), Pages(113), Err(Refusal::NoRoom)),
+    Step::Grow(book!(0), Pages(112), Ok(Pages(0))),
     // Region 2 has kept its blocks, its pages and its bytes.
-    [18, HAS4, 0, 16, 1, 0, 0x00000002],
-    [18, HAS4, 0, 20, 1, 0, 0x00010002],
-    [18, HAS4, 0, 96, 1, 0, 9],
-    [18, HAS4, 0, 100, 1, 0, 0],
-    [18, HAS1, 0, 512, 1, 0, 0x5a],
-    [18, HAS1, 0, 513, 574, 0, 0],
-    [18, HAS1, 0, 1087, 1, 0, 0xa5],
+    Step::Has(Width::Four, Offset(16), 1, 0x00000002),
+    Step::Has(Width::Four, Offset(20), 1, 0x00010002),
+    Step::Has(Width::Four, Offset(96), 1, 9),
+    Step::Has(Width::Four, Offset(100), 1, 0),
+    Step::Has(Width::One, Offset(512), 1, 0x5a),
+    Step::Has(Width::One, Offset(513), 574, 0),
+    Step::Has(Width::One, Offset(1087), 1, 0xa5),
     // More than sixteen blocks of pages it may not have.
-    [18, PUT, 0, 96, 0, 0, 129],
-    [18, RECOVER, 0, 8704, 0, 6, 0],
+    Step::Put(Offset(96), 129),
+    Step::Recover(8704, Err(Refusal::TablesWrong)),
 ];
 
-const CASE_19: [[u64; 7]; 20] = [
+const CASE_19: [Step; 20] = [
     // Lay makes the rest of the reserve zero, bytes 272 to 511, and not the byte after it.
-    [19, ZERO, 0, 0, 0, 0, 0],
-    [19, PUT, 0, 272, 0, 0, 7],
-    [19, PUT, 0, 511, 0, 0, 7],
-    [19, PUT, 0, 512, 0, 0, 7],
-    [19, LAY, 0, 0, 0, 0, 0],
-    [19, HAS1, 0, 272, 240, 0, 0],
-    [19, HAS1, 0, 512, 1, 0, 7],
-    [19, RECOVER, 0, 8704, 0, 0, 0],
+    Step::Zero,
+    Step::Put(Offset(272), 7),
+    Step::Put(Offset(511), 7),
+    Step::Put(Offset(512), 7),
+    Step::Lay(Version::Two, Ok(())),
+    Step::Has(Width::One, Offset(272), 240, 0),
+    Step::Has(Width::One, Offset(512), 1, 7),
+    Step::Recover(8704, Ok(())),
     // Recovery refuses the first of them and the last, before 5; other calls do not look at them.
-    [19, PUT, 0, 272, 0, 0, 1],
-    [19, RECOVER, 0, 8704, 0, 16, 0],
-    [19, PUT, 0, 272, 0, 0, 0],
-    [19, PUT, 0, 511, 0, 0, 1],
-    [19, RECOVER, 0, 8704, 0, 16, 0],
-    [19, GROW, 0, 1, 0, 0, 0],
-    [19, RECOVER, 0, 512, 0, 16, 0],
-    [19, SIZE, 0, 0, 0, 0, 1],
-    [19, HAS1, 0, 511, 1, 0, 1],
-    [19, PUT, 0, 511, 0, 0, 0],
-    [19, RECOVER, 0, 512, 0, 5, 0],
-    [19, RECOVER, 0, 8704, 0, 0, 0],
+    Step::Put(Offset(272), 1),
+    Step::Recover(8704, Err(Refusal::Newer)),
+    Step::Put(Offset(272), 0),
+    Step::Put(Offset(511), 1),
+    Step::Recover(8704, Err(Refusal::Newer)),
+    Step::Grow(book!(0), Pages(1), Ok(Pages(0))),
+    Step::Recover(512, Err(Refusal::Newer)),
+    Step::Size(book!(0), Ok(Pages(1))),
+    Step::Has(Width::One, Offset(511), 1, 1),
+    Step::Put(Offset(511), 0),
+    Step::Recover(512, Err(Refusal::TailMissing)),
+    Step::Recover(8704, Ok(())),
 ];
 
-const CASE_20: [[u64; 7]; 23] = [
+const CASE_20: [Step; 23] = [
     // An older memory of 17 pages: its first block goes behind its third, and region 0 reads as it did.
-    [20, ZERO, 0, 0, 0, 0, 0],
-    [20, PUT, 0, 0, 0, 0, 0x11],
-    [20, PUT, 0, 272, 0, 0, 0x22],
-    [20, PUT, 0, 511, 0, 0, 0x33],
-    [20, PUT, 0, 512, 0, 0, 0x44],
-    [20, PUT, 0, 1087, 0, 0, 0x55],
-    [20, PUT, 0, 2048, 0, 0, 0x66],
-    [20, MOVE, 0, 129, 0, 13, 0],
-    [20, MOVE, 0, 17, 0, 0, 0],
-    [20, HAS2, 0, 8, 1, 0, 3],
-    [20, HAS4, 0, 16, 1, 0, 0x00010000],
-    [20, HAS4, 0, 20, 1, 0, 0x00020000],
-    [20, HAS4, 0, 24, 1, 0, 0x00000000],
-    [20, HAS1, 0, 272, 240, 0, 0],
-    [20, HAS1, 0, 2048, 1, 0, 0x66],
-    [20, SIZE, 0, 0, 0, 0, 17],
-    [20, LOAD, 0, 0, 1, 0, 0x11],
-    [20, LOAD, 0, 272, 1, 0, 0x22],
-    [20, LOAD, 0, 511, 2, 0, 0x4433],
-    [20, LOAD, 0, 1087, 1, 0, 0x55],
-    [20, RECOVER, 0, 8704, 0, 0, 0],
-    [20, GROW, 0, 1, 0, 0, 17],
-    [20, LOAD, 0, 511, 2, 0, 0x4433],
+    Step::Zero,
+    Step::Put(Offset(0), 0x11),
+    Step::Put(Offset(272), 0x22),
+    Step::Put(Offset(511), 0x33),
+    Step::Put(Offset(512), 0x44),
+    Step::Put(Offset(1087), 0x55),
+    Step::Put(Offset(2048), 0x66),
+    Step::Move(Pages(129), Err(Refusal::TooFewBlocks)),
+    Step::Move(Pages(17), Ok(())),
+    Step::Has(Width::Two, Offset(8), 1, 3),
+    Step::Has(Width::Four, Offset(16), 1, 0x00010000),
+    Step::Has(Width::Four, Offset(20), 1, 0x00020000),
+    Step::Has(Width::Four, Offset(24), 1, 0x00000000),
+    Step::Has(Width::One, Offset(272), 240, 0),
+    Step::Has(Width::One, Offset(2048), 1, 0x66),
+    Step::Size(book!(0), Ok(Pages(17))),
+    Step::Load(book!(0), Offset(0), 1, Ok(0x11)),
+    Step::Load(book!(0), Offset(272), 1, Ok(0x22)),
+    Step::Load(book!(0), Offset(511), 2, Ok(0x4433)),
+    Step::Load(book!(0), Offset(1087), 1, Ok(0x55)),
+    Step::Recover(8704, Ok(())),
+    Step::Grow(book!(0), Pages(1), Ok(Pages(17))),
+    Step::Load(book!(0), Offset(511), 2, Ok(0x4433)),
 ];
 
-const CASE_21: [[u64; 7]; 18] = [
+const CASE_21: [Step; 18] = [
     // Case 11 in version 3: a released region is given again with its next edition, and whoever names the old one is refused.
-    [21, ZERO, 0, 0, 0, 0, 0],
-    [21, LAY_3, 0, 0, 0, 0, 0],
-    [21, HAS4, 0, 4, 1, 0, 3],
-    [21, OPEN, 0, 0, 0, 0, 16],
-    [21, OPEN, 0, 0, 0, 0, 17],
-    [21, OPEN, 0, 0, 0, 0, 18],
-    [21, OPEN, 0, 0, 0, 0, 19],
-    [21, OPEN, 0, 0, 0, 0, 20],
-    [21, OPEN, 0, 0, 0, 0, 21],
-    [21, OPEN, 0, 0, 0, 0, 22],
-    [21, OPEN, 0, 0, 0, 11, 0],
-    [21, RELEASE, 18, 0, 0, 0, 0],
-    [21, OPEN, 0, 0, 0, 0, 0x10012],
-    [21, GROW, 18, 1, 0, 18, 0],
-    [21, GROW, 0x10012, 1, 0, 0, 0],
-    [21, STORE, 18, 0, 1, 18, 0],
-    [21, SIZE, 0x10012, 0, 0, 0, 1],
-    [21, HAS4, 0, 228, 1, 0, 1],
+    Step::Zero,
+    Step::Lay(Version::Three, Ok(())),
+    Step::Has(Width::Four, Offset(4), 1, 3),
+    Step::Open(Ok(book!(16))),
+    Step::Open(Ok(book!(17))),
+    Step::Open(Ok(book!(18))),
+    Step::Open(Ok(book!(19))),
+    Step::Open(Ok(book!(20))),
+    Step::Open(Ok(book!(21))),
+    Step::Open(Ok(book!(22))),
+    Step::Open(Err(Refusal::NoRegion)),
+    Step::Release(book!(18), Ok(())),
+    Step::Open(Ok(book!(18, 1))),
+    Step::Grow(book!(18), Pages(1), Err(Refusal::Stale)),
+    Step::Grow(book!(18, 1), Pages(1), Ok(Pages(0))),
+    Step::Store(book!(18), Offset(0), 1, Err(Refusal::Stale)),
+    Step::Size(book!(18, 1), Ok(Pages(1))),
+    Step::Has(Width::Four, Offset(228), 1, 1),
 ];
 
-// For a row that is no call, or loads or stores more bytes than there are for it.
-const ODD: u8 = 99;
-
-fn region(row: [u64; 7]) -> Region {
-    Region((row[BOOK] % 65536) as u32)
-}
-
-fn edition(row: [u64; 7]) -> Edition {
-    Edition((row[BOOK] / 65536 % 4294967296) as u32)
-}
-
-fn book(region: Region, edition: Edition) -> u64 {
-    region.0 as u64 + edition.0 as u64 * 65536
-}
-
-fn wide(b: u8) -> u64 {
-    b as u64
-}
+// ---- what a step wants
 
 // The number that one, two or four bytes make; 0 for any other part.
 fn number(part: &[u8]) -> u64 {
-    match part.len() {
-        1 => wide(part[0]),
-        2 => numbers::read_u16(part, 0) as u64,
-        4 => numbers::read_u32(part, 0) as u64,
+    match part {
+        [a] => u64::from(*a),
+        [a, b] => u64::from(u16::from_le_bytes([*a, *b])),
+        [a, b, c, d] => u64::from(u32::from_le_bytes([*a, *b, *c, *d])),
         _ => 0,
     }
 }
 
-// ---- the call of a row
-
-fn grow(image: &mut [u8], index: &mut [u8], row: [u64; 7]) -> Answer {
-    books::grow(
-        G,
-        image,
-        index,
-        region(row),
-        edition(row),
-        Pages(row[NUMBER]),
-    )
-}
-
-fn table_call(image: &mut [u8], index: &mut [u8], row: [u64; 7]) -> Answer {
-    match row[DOES] {
-        LAY => laying::lay(G, Version::Two, image, index),
-        LAY_3 => laying::lay(G, Version::Three, image, index),
-        MOVE => moving::move_over(G, image, index, Pages(row[NUMBER])),
-        OPEN => books::open(G, image, index),
-        GROW => grow(image, index, row),
-        RELEASE => books::release(G, image, index, region(row), edition(row)),
-        _ => Answer::Refused(ODD),
-    }
-}
-
-// Recovery from a copy of the image.
-fn recover(image: &[u8], index: &mut [u8], row: [u64; 7]) -> Answer {
-    let n = row[NUMBER] as usize;
-    if image.len() < n {
-        return Answer::Refused(ODD);
-    }
-    recovery::recover(G, &image[0..n], index)
-}
-
-// A store writes the bytes 1, 2, 3 and so on.
-fn store(image: &mut [u8], index: &[u8], row: [u64; 7]) -> Answer {
-    let bytes: [u8; 16] = [1, 2, 3, 4, 5, 6, 7, 8, 9, 10, 11, 12, 13, 14, 15, 16];
-    let n = row[LENGTH] as usize;
-    if bytes.len() < n {
-        return Answer::Refused(ODD);
-    }
-    contents::store(
-        G,
-        image,
-        index,
-        region(row),
-        edition(row),
-        Offset(row[NUMBER]),
-        &bytes[0..n],
-    )
-}
-
-// A load answers the number that its bytes make.
-fn loaded(image: &[u8], index: &[u8], row: [u64; 7], buffer: &mut [u8]) -> Answer {
-    let a = contents::load(
-        G,
-        image,
-        index,
-        region(row),
-        edition(row),
-        Offset(row[NUMBER]),
-        buffer,
-    );
-    let Answer::Done(_) = a else {
-        return a;
+// So many numbers of that width from there on are those wanted.
+fn has(bytes: &[u8], width: Width, from: Offset, times: usize, value: u64) -> bool {
+    let Some(rest) = bytes.get(from.0 as usize..) else {
+        return false;
     };
-    Answer::Done(number(buffer))
+    rest.chunks_exact(width as usize)
+        .take(times)
+        .filter(|part| number(part) == value)
+        .count()
+        == times
 }
 
-fn load(image: &[u8], index: &[u8], row: [u64; 7]) -> Answer {
+fn put(image: &mut [u8], at: Offset, byte: u8) -> bool {
+    let Some(place) = image.get_mut(at.0 as usize) else {
+        return false;
+    };
+    *place = byte;
+    true
+}
+
+fn recovers(image: &[u8], index: &mut [u8], bytes: usize, answer: Result<(), Refusal>) -> bool {
+    let Some(part) = image.get(..bytes) else {
+        return false;
+    };
+    recovery::recover(G, part, index) == answer
+}
+
+fn stores(
+    image: &mut [u8],
+    index: &[u8],
+    book: Book,
+    offset: Offset,
+    length: usize,
+    answer: Result<(), Refusal>,
+) -> bool {
+    let all: [u8; 16] = [1, 2, 3, 4, 5, 6, 7, 8, 9, 10, 11, 12, 13, 14, 15, 16];
+    let Some(bytes) = all.get(..length) else {
+        return false;
+    };
+    contents::store(G, image, index, book, offset, bytes) == answer
+}
+
+fn loads(
+    image: &[u8],
+    index: &[u8],
+    book: Book,
+    offset: Offset,
+    length: usize,
+    answer: Result<u64, Refusal>,
+) -> bool {
     let mut buffer = [7u8; 4];
-    let n = row[LENGTH] as usize;
-    if buffer.len() < n {
-        return Answer::Refused(ODD);
-    }
-    loaded(image, index, row, &mut buffer[0..n])
-}
-
-fn call(image: &mut [u8], index: &mut [u8], row: [u64; 7]) -> Answer {
-    match row[DOES] {
-        STORE => store(image, index, row),
-        LOAD => load(image, index, row),
-        RECOVER => recover(image, index, row),
-        SIZE => desk::size(G, image, region(row), edition(row)),
-        _ => table_call(image, index, row),
-    }
-}
-
-// ---- what a row wants
-
-fn answers(a: Answer, row: [u64; 7]) -> bool {
-    match a {
-        Answer::Done(v) => {
-            if row[REFUSAL] != 0 {
-                return false;
-            }
-            v == row[VALUE]
-        }
-        Answer::Opened { region, edition } => {
-            if row[REFUSAL] != 0 {
-                return false;
-            }
-            book(region, edition) == row[VALUE]
-        }
-        Answer::Refused(k) => {
-            if row[VALUE] != 0 {
-                return false;
-            }
-            k as u64 == row[REFUSAL]
-        }
-    }
-}
-
-// A look hands back a part of that length, with those bytes.
-fn shows(image: &[u8], index: &[u8], row: [u64; 7]) -> bool {
-    let part = contents::look(
-        G,
-        image,
-        index,
-        region(row),
-        edition(row),
-        Offset(row[NUMBER]),
-    );
-    if part.len() as u64 != row[LENGTH] {
+    let Some(bytes) = buffer.get_mut(..length) else {
         return false;
-    }
-    number(part) == row[VALUE]
+    };
+    contents::load(G, image, index, book, offset, bytes).map(|()| number(bytes)) == answer
 }
 
-fn zeroed(image: &mut [u8], index: &mut [u8]) -> bool {
-    numbers::zero(image);
-    numbers::zero(index);
-    true
-}
-
-fn wiped(index: &mut [u8]) -> bool {
-    numbers::zero(index);
-    true
-}
-
-fn put(image: &mut [u8], row: [u64; 7]) -> bool {
-    let at = row[NUMBER] as usize;
-    if image.len() <= at {
-        return false;
-    }
-    image[at] = (row[VALUE] % 256) as u8;
-    true
-}
-
-fn width(row: [u64; 7]) -> usize {
-    match row[DOES] {
-        HAS1 => 1,
-        HAS4 => 4,
-        _ => 2,
-    }
-}
-
-// So many numbers of that width from the offset on are those wanted.
-fn has(bytes: &[u8], width: usize, from: Offset, times: u64, wanted: u64) -> bool {
-    let mut at = from.0 as usize;
-    for _ in 0..times {
-        if bytes.len() < at {
-            return false;
+fn holds(image: &mut [u8], index: &mut [u8], step: Step) -> bool {
+    match step {
+        Step::Lay(version, answer) => laying::lay(G, version, image, index) == answer,
+        Step::Move(pages, answer) => moving::move_over(G, image, index, pages) == answer,
+        Step::Open(answer) => books::open(G, image, index) == answer,
+        Step::Grow(book, pages, answer) => books::grow(G, image, index, book, pages) == answer,
+        Step::Store(book, offset, length, answer) => stores(
+            image, index, book, offset, length, answer,
+        ),
+        Step::Load(book, offset, length, answer) => loads(
+            image, index, book, offset, length, answer,
+        ),
+        Step::Release(book, answer) => books::release(G, image, index, book) == answer,
+        Step::Size(book, answer) => desk::size(G, image, book) == answer,
+        Step::Recover(bytes, answer) => recovers(image, index, bytes, answer),
+        Step::Look(book, offset, bytes) => contents::look(G, image, index, book, offset) == bytes,
+        Step::Zero => {
+            image.fill(0);
+            index.fill(0);
+            true
         }
-        if bytes.len() - at < width {
-            return false;
+        Step::Wipe => {
+            index.fill(0);
+            true
         }
-        if number(&bytes[at..at + width]) != wanted {
-            return false;
-        }
-        at += width;
-    }
-    true
-}
-
-fn row_has(bytes: &[u8], row: [u64; 7]) -> bool {
-    has(
-        bytes,
-        width(row),
-        Offset(row[NUMBER]),
-        row[LENGTH],
-        row[VALUE],
-    )
-}
-
-fn holds(image: &mut [u8], index: &mut [u8], row: [u64; 7]) -> bool {
-    match row[DOES] {
-        LOOK => shows(image, index, row),
-        ZERO => zeroed(image, index),
-        WIPE => wiped(index),
-        PUT => put(image, row),
-        HAS1 | HAS2 | HAS4 => row_has(image, row),
-        INDEX => row_has(index, row),
-        _ => answers(call(image, index, row), row),
+        Step::Put(at, byte) => put(image, at, byte),
+        Step::Has(width, from, times, value) => has(image, width, from, times, value),
+        Step::Index(from, times, value) => has(index, Width::Two, from, times, value),
     }
 }
 
 // ---- the walk
 
-fn report(rt: &HostRuntime, number: u64, right: bool) -> io::Result<()> {
-    if right {
-        println!(rt; "case {number} holds")
-    } else {
-        println!(rt; "case {number} DOES NOT HOLD")
-    }
-}
-
-// A case's line is printed when its last row is done.
+// Every step of a case is made, also after one that does not hold.
 fn walk(
     rt: &HostRuntime,
     image: &mut [u8],
     index: &mut [u8],
-    first: u64,
-    rows: &[[u64; 7]],
+    case: u64,
+    steps: &[Step],
 ) -> io::Result<()> {
-    let mut case = first;
     let mut right = true;
-    for i in 0..rows.len() {
-        let row = rows[i];
-        if row[CASE] != case {
-            report(rt, case, right)?;
-            case = row[CASE];
-            right = true;
-        }
-        if !holds(image, index, row) {
-            right = false;
-        }
+    for step in steps {
+        right &= holds(image, index, *step);
     }
-    report(rt, case, right)
+    if right {
+        println!(rt; "case {case} holds")
+    } else {
+        println!(rt; "case {case} DOES NOT HOLD")
+    }
 }
 
-fn cases_1_to_3(rt: &HostRuntime, image: &mut [u8], index: &mut [u8]) -> io::Result<()> {
-    walk(rt, image, index, 1, &CASES_1_TO_3)
-}
-
-fn cases_4_to_6(rt: &HostRuntime, image: &mut [u8], index: &mut [u8]) -> io::Result<()> {
-    walk(rt, image, index, 4, &CASES_4_TO_6)
-}
-
-fn cases_7_to_10(rt: &HostRuntime, image: &mut [u8], index: &mut [u8]) -> io::Result<()> {
-    walk(rt, image, index, 7, &CASES_7_TO_10)
-}
-
-fn cases_11_to_12(rt: &HostRuntime, image: &mut [u8], index: &mut [u8]) -> io::Result<()> {
-    walk(rt, image, index, 11, &CASES_11_TO_12)
-}
-
-fn case_13(rt: &HostRuntime, image: &mut [u8], index: &mut [u8]) -> io::Result<()> {
-    walk(rt, image, index, 13, &CASE_13)
-}
-
-fn case_14(rt: &HostRuntime) -> io::Result<()> {
+// The image has room for three data blocks.
+fn walk_14(rt: &HostRuntime) -> io::Result<()> {
     let mut image = [0u8; 2048];
     let mut index = [0u8; 82];
     walk(rt, &mut image, &mut index, 14, &CASE_14)
 }
 
-fn cases_15_to_16(rt: &HostRuntime, image: &mut [u8], index: &mut [u8]) -> io::Result<()> {
-    walk(rt, image, index, 15, &CASES_15_TO_16)
-}
-
-fn case_17(rt: &HostRuntime, image: &mut [u8], index: &mut [u8]) -> io::Result<()> {
-    walk(rt, image, index, 17, &CASE_17)
-}
-
-fn case_18(rt: &HostRuntime, image: &mut [u8], index: &mut [u8]) -> io::Result<()> {
-    walk(rt, image, index, 18, &CASE_18)
-}
-
-fn case_19(rt: &HostRuntime, image: &mut [u8], index: &mut [u8]) -> io::Result<()> {
-    walk(rt, image, index, 19, &CASE_19)
-}
-
-fn case_20(rt: &HostRuntime, image: &mut [u8], index: &mut [u8]) -> io::Result<()> {
-    walk(rt, image, index, 20, &CASE_20)
-}
-
-fn case_21(rt: &HostRuntime, image: &mut [u8], index: &mut [u8]) -> io::Result<()> {
-    walk(rt, image, index, 21, &CASE_21)
-}
-
 fn main(rt: HostRuntime) -> io::Result<()> {
     let mut image = [0u8; 8704];
     let mut index = [0u8; 82];
-    cases_1_to_3(&rt, &mut image, &mut index)?;
-    cases_4_to_6(&rt, &mut image, &mut index)?;
-    cases_7_to_10(&rt, &mut image, &mut index)?;
-    cases_11_to_12(&rt, &mut image, &mut index)?;
-    case_13(&rt, &mut image, &mut index)?;
-    case_14(&rt)?;
-    cases_15_to_16(&rt, &mut image, &mut index)?;
-    case_17(&rt, &mut image, &mut index)?;
-    case_18(&rt, &mut image, &mut index)?;
-    case_19(&rt, &mut image, &mut index)?;
-    case_20(&rt, &mut image, &mut index)?;
-    case_21(&rt, &mut image, &mut index)
+    walk(&rt, &mut image, &mut index, 1, &CASE_1)?;
+    walk(&rt, &mut image, &mut index, 2, &CASE_2)?;
+    walk(&rt, &mut image, &mut index, 3, &CASE_3)?;
+    walk(&rt, &mut image, &mut index, 4, &CASE_4)?;
+    walk(&rt, &mut image, &mut index, 5, &CASE_5)?;
+    walk(&rt, &mut image, &mut index, 6, &CASE_6)?;
+    walk(&rt, &mut image, &mut index, 7, &CASE_7)?;
+    walk(&rt, &mut image, &mut index, 8, &CASE_8)?;
+    walk(&rt, &mut image, &mut index, 9, &CASE_9)?;
+    walk(&rt, &mut image, &mut index, 10, &CASE_10)?;
+    walk(&rt, &mut image, &mut index, 11, &CASE_11)?;
+    walk(&rt, &mut image, &mut index, 12, &CASE_12)?;
+    walk(&rt, &mut image, &mut index, 13, &CASE_13)?;
+    walk_14(&rt)?;
+    walk(&rt, &mut image, &mut index, 15, &CASE_15)?;
+    walk(&rt, &mut image, &mut index, 16, &CASE_16)?;
+    walk(&rt, &mut image, &mut index, 17, &CASE_17)?;
+    walk(&rt, &mut image, &mut index, 18, &CASE_18)?;
+    walk(&rt, &mut image, &mut index, 19, &CASE_19)?;
+    walk(&rt, &mut image, &mut index, 20, &CASE_20)?;
+    walk(&rt, &mut image, &mut index, 21, &CASE_21)
 }

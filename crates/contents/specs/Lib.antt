@@ -1,2 +1,1 @@
--- What is told of the bytes that a call asks for.
-pub mod Reading
+-- The contracts cite the definitions of paper, rules and stretches alone.

@@ -1,184 +1,164 @@
 // The refusals that calls share, each in its order, and the call that asks nothing else: size.
 #![tactic(auto)]
 
-ghost use Rattle.std.specs.Prelude.{◌≡◌, [], ◌<◌, eqb, ltb, length};
+ghost use Rattle.std.specs.Prelude.{◌≡◌, [], ◌<◌, eqb, ltb, length, IfOk};
 ghost use Rattle.paper.specs.Geometry.{capacity};
-ghost use Rattle.paper.specs.Image.{front, taken, edition_of};
+ghost use Rattle.paper.specs.Image.{taken, edition_of};
 ghost use Rattle.paper.specs.Calls.{size};
 ghost use Rattle.paper.specs.Refusals.{usable};
+ghost use Rattle.paper.specs.Answers.{no_in, answered, counted};
 ghost use Rattle.paper.specs.Outcomes.{lent, gives, outcome};
-ghost use Rattle.rules.specs.Facts.{Readable, Headed};
-ghost use Rattle.rules.specs.Lines.{head_no, whole_no, book_no, lent_no, indexed_head_no, entered_no};
+ghost use Rattle.rules.specs.Lines.{head_no, whole_no, name_no, book_no, lent_no, indexed_head_no, entered_no};
+ghost use Rattle.image.specs.Views.{front_of, IsImage};
+ghost use Rattle.index.specs.Views.{IsLent};
 
-use paper::{Answer, Block, Edition, Geometry, Region};
+use image::{Headed, Image};
+use index::{Index, Lent};
+use paper::{Block, Book, Edition, Geometry, Pages, Refusal, Region};
 
-// ---- the numbers of the refusals
-
-pub const GEOMETRY: u8 = 1;
-
-pub const INDEX_LENGTH: u8 = 2;
-
-pub const IMAGE_SHORT: u8 = 3;
-
-pub const HEADER: u8 = 4;
-
-pub const TAIL_MISSING: u8 = 5;
-
-pub const TABLES: u8 = 6;
-
-pub const INDEX: u8 = 7;
-
-pub const REGION: u8 = 8;
-
-pub const BEYOND: u8 = 9;
-
-pub const NO_ROOM: u8 = 10;
-
-pub const NO_REGION: u8 = 11;
-
-pub const NOT_BLANK: u8 = 12;
-
-pub const TOO_FEW_BLOCKS: u8 = 13;
-
-pub const NEWER: u8 = 16;
-
-pub const EDITION: u8 = 18;
-
-// ---- shared refusals: 0 where none applies
+// ---- shared refusals. What passes them is given back as a value that says so
 
 // 1, 3, 4.
-pub fn head(g: Geometry, image: &[u8]) -> u8
-    ensures { result ≡ head_no g image.now }
+#[tactic(auto, unfolding(rules::specs::Lines::head_no, paper::specs::Refusals::first))]
+pub fn head<'a>(g: Geometry, image: &'a [u8]) -> Result<Headed<'a>, Refusal>
+    ensures number { no_in result ≡ head_no g image.now }
+    ensures image { IfOk result (λ h. IsImage g image.now h.image) }
 {
     if !g.allowed() {
-        return GEOMETRY;
+        return Err(Refusal::GeometryWrong);
     }
     if image.len() < g.block_bytes() {
-        return IMAGE_SHORT;
+        return Err(Refusal::ImageShort);
     }
-    if !image::header_right(g, image) {
-        return HEADER;
+    let image = Image { g, bytes: image };
+    if !image.header_right() {
+        return Err(Refusal::HeaderWrong);
     }
-    0
+    Ok(Headed { image })
 }
 
 // 1, 2, 3.
-pub fn lent(g: Geometry, image: &[u8], index: &[u8]) -> u8
-    ensures { result ≡ lent_no g image.now index.now }
+#[tactic(auto, unfolding(rules::specs::Lines::lent_no, paper::specs::Refusals::first))]
+pub fn lent(g: Geometry, image: &[u8], index: &[u8]) -> Result<(), Refusal>
+    ensures { no_in result ≡ lent_no g image.now index.now }
 {
     if !g.allowed() {
-        return GEOMETRY;
+        return Err(Refusal::GeometryWrong);
     }
     if index.len() != g.index_bytes() {
-        return INDEX_LENGTH;
+        return Err(Refusal::IndexLength);
     }
     if image.len() < g.block_bytes() {
-        return IMAGE_SHORT;
+        return Err(Refusal::ImageShort);
     }
-    0
+    Ok(())
 }
 
 // 1, 2, 3, 4.
-pub fn indexed_head(g: Geometry, image: &[u8], index: &[u8]) -> u8
-    ensures { result ≡ indexed_head_no g image.now index.now }
+#[tactic(auto, unfolding(rules::specs::Lines::indexed_head_no, rules::specs::Lines::lent_no, paper::specs::Refusals::first))]
+pub fn indexed_head<'a>(g: Geometry, image: &'a [u8], index: &[u8]) -> Result<Headed<'a>, Refusal>
+    ensures number { no_in result ≡ indexed_head_no g image.now index.now }
+    ensures image { IfOk result (λ h. IsImage g image.now h.image) }
 {
-    if !g.allowed() {
-        return GEOMETRY;
+    lent(g, image, index)?;
+    let image = Image { g, bytes: image };
+    if !image.header_right() {
+        return Err(Refusal::HeaderWrong);
     }
-    if index.len() != g.index_bytes() {
-        return INDEX_LENGTH;
-    }
-    head(g, image)
+    Ok(Headed { image })
 }
 
 // The image has room for fewer blocks than were taken: it ends before the next one, block N, would begin. N is at most B, so this says as
 // much as K does, and divides nothing.
-pub fn tail_missing(g: Geometry, image: &[u8]) -> bool
-    requires { Headed g image.now }
-    ensures { result ≡ ltb (capacity g (length image.now)) (taken g (front g image.now)) }
+pub fn tail_missing(headed: &Headed<'_>) -> bool
+    ensures { result ≡ ltb (capacity headed.now.image.g (length headed.now.image.bytes.now)) (taken headed.now.image.g (front_of headed.now.image)) }
 {
-    image.len() < g.data_at(Block(image::taken(g, image)))
+    let image = &headed.image;
+    image.bytes.len() < image.g.data_at(Block(image.taken()))
 }
 
 // 1, 3, 4, 5.
-fn whole(g: Geometry, image: &[u8]) -> u8
-    ensures { result ≡ whole_no g image.now }
+#[tactic(auto, unfolding(rules::specs::Lines::whole_no, rules::specs::Lines::head_no, paper::specs::Refusals::first))]
+fn whole<'a>(g: Geometry, image: &'a [u8]) -> Result<Image<'a>, Refusal>
+    ensures number { no_in result ≡ whole_no g image.now }
+    ensures image { IfOk result (λ i. IsImage g image.now i) }
 {
-    let no = head(g, image);
-    if no != 0 {
-        return no;
+    let headed = head(g, image)?;
+    if tail_missing(&headed) {
+        return Err(Refusal::TailMissing);
     }
-    if tail_missing(g, image) {
-        return TAIL_MISSING;
-    }
-    0
+    Ok(headed.image)
 }
 
 // 1, 2, 3, 4, 5.
-pub fn entered(g: Geometry, image: &[u8], index: &[u8]) -> u8
-    ensures { result ≡ entered_no g image.now index.now }
+#[tactic(auto, unfolding(rules::specs::Lines::entered_no, rules::specs::Lines::indexed_head_no, paper::specs::Refusals::first))]
+pub fn entered<'a, 'b>(
+    g: Geometry,
+    image: &'a [u8],
+    index: &'b [u8],
+) -> Result<Lent<'a, 'b>, Refusal>
+    ensures number { no_in result ≡ entered_no g image.now index.now }
+    ensures lent { IfOk result (λ l. IsLent g image.now index.now l) }
 {
-    let no = indexed_head(g, image, index);
-    if no != 0 {
-        return no;
+    let headed = indexed_head(g, image, index)?;
+    if tail_missing(&headed) {
+        return Err(Refusal::TailMissing);
     }
-    if tail_missing(g, image) {
-        return TAIL_MISSING;
-    }
-    0
+    Ok(Lent {
+        image: headed.image,
+        index: Index { g, bytes: index },
+    })
 }
 
-pub fn usable(g: Geometry, image: &[u8], region: Region) -> bool
-    requires { Readable g image.now }
-    ensures { result ≡ usable g (front g image.now) region.0 }
+#[tactic(auto, unfolding(paper::specs::Refusals::usable))]
+pub fn usable(image: &Image<'_>, region: Region) -> bool
+    ensures { result ≡ usable image.now.g (front_of image.now) region.0 }
 {
-    if 0 < region.0 && region.0 < paper::FIXED_REGIONS {
-        return false;
-    }
-    if g.no_region().0 <= region.0 {
-        return false;
-    }
-    image::is_open(g, image, region)
+    let callable = region == paper::ANONYMOUS || paper::FIXED_REGIONS <= region.0;
+    callable && region < image.g.no_region() && image.is_open(region)
 }
 
 // The region's book is the one of that edition.
-pub fn is_edition(g: Geometry, image: &[u8], region: Region, edition: Edition) -> bool
-    requires readable { Readable g image.now }
-    requires region_lt_entries { region.0 < g.entries }
-    ensures { result ≡ eqb (edition_of g (front g image.now) region.0) edition.0 }
+pub fn is_edition(image: &Image<'_>, region: Region, edition: Edition) -> bool
+    requires region_lt_entries { region.0 < image.now.g.entries }
+    ensures { result ≡ eqb (edition_of image.now.g (front_of image.now) region.0) edition.0 }
 {
-    image::edition(g, image, region).0 == edition.0
+    image.edition(region) == edition
+}
+
+// 8, 18.
+#[tactic(auto, unfolding(rules::specs::Lines::name_no, paper::specs::Refusals::first))]
+pub fn name_book(image: &Image<'_>, book: Book) -> Result<(), Refusal>
+    ensures { no_in result ≡ name_no image.now.g image.now.bytes.now book.region.0 book.edition.0 }
+{
+    if !usable(image, book.region) {
+        return Err(Refusal::Unusable);
+    }
+    if !is_edition(image, book.region, book.edition) {
+        return Err(Refusal::Stale);
+    }
+    Ok(())
 }
 
 // 8, 18, and 6 for this book alone.
-pub fn book_refusal(g: Geometry, image: &[u8], region: Region, edition: Edition) -> u8
-    requires { Readable g image.now }
-    ensures { result ≡ book_no g image.now region.0 edition.0 }
+#[tactic(auto, unfolding(rules::specs::Lines::book_no, rules::specs::Lines::name_no, paper::specs::Refusals::first))]
+pub fn check_book(image: &Image<'_>, book: Book) -> Result<(), Refusal>
+    ensures { no_in result ≡ book_no image.now.g image.now.bytes.now book.region.0 book.edition.0 }
 {
-    if !usable(g, image, region) {
-        return REGION;
+    name_book(image, book)?;
+    if image.g.most_book_pages() < image.pages(book.region) {
+        return Err(Refusal::TablesWrong);
     }
-    if !is_edition(g, image, region, edition) {
-        return EDITION;
-    }
-    if g.most_book_pages().0 < image::pages(g, image, region).0 {
-        return TABLES;
-    }
-    0
+    Ok(())
 }
 
 // ---- Size: answers the page count; takes no index
 
-pub fn size(g: Geometry, image: &[u8], region: Region, edition: Edition) -> Answer
-    ensures { gives result [] (lent image.now []) ≡ outcome g (size region.0 edition.0) (lent image.now []) }
+#[tactic(auto, unfolding(rules::specs::Lines::whole_no, rules::specs::Lines::book_no, paper::specs::Refusals::first, paper::specs::Refusals::checks, paper::specs::Outcomes::outcome, paper::specs::Outcomes::accepted))]
+pub fn size(g: Geometry, image: &[u8], book: Book) -> Result<Pages, Refusal>
+    ensures { gives (answered counted result) [] (lent image.now []) ≡ outcome g (size book.region.0 book.edition.0) (lent image.now []) }
 {
-    let no = whole(g, image);
-    if no != 0 {
-        return Answer::Refused(no);
-    }
-    let no = book_refusal(g, image, region, edition);
-    if no != 0 {
-        return Answer::Refused(no);
-    }
-    Answer::Done(image::pages(g, image, region).0)
+    let image = whole(g, image)?;
+    check_book(&image, book)?;
+    Ok(image.pages(book.region))
 }

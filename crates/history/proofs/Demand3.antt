@@ -7,7 +7,7 @@ use native.Mathlib.Decide.{ℕ_discrete, dec_lt}
 use borrow.Author.Tests.{ne_eqb, le-leb, lt-leb}
 use lib.ListN.{length}
 use Rattle.paper.specs.declared.Geometry.{Geometry}
-use Rattle.paper.specs.declared.Answer.TheVariants.{Done}
+use Rattle.paper.specs.Answers.{Done}
 use Rattle.paper.specs.declared.Version.{Version}
 use Rattle.paper.specs.Geometry.{fixed_regions, reclaimed, Allowed, block_bytes, capacity}
 use Rattle.paper.specs.Image.{front, rest, blanked}

@@ -12,7 +12,7 @@ use Rattle.laws.specs.Folds.{sum_below}
 use Rattle.laws.proofs.Tests.{clash}
 use Rattle.laws.proofs.Folds.{sum_ext, sum_add}
 use Rattle.paper.specs.declared.Geometry.{Geometry}
-use Rattle.paper.specs.declared.Answer.TheVariants.{Done}
+use Rattle.paper.specs.Answers.{Done}
 use Rattle.paper.specs.Image.{front}
 use Rattle.paper.specs.Calls.{Call, lay, «open», grow, load, store, look, size, release, recover, next_region}
 use Rattle.paper.specs.Refusals.{callable, blank, refusal}

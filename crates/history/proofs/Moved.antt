@@ -7,7 +7,7 @@ use native.Mathlib.Decide.{ℕ_discrete, dec_lt}
 use borrow.Author.Tests.{ne_eqb, le-leb, lt-leb}
 use lib.ListN.{take, length}
 use Rattle.paper.specs.declared.Geometry.{Geometry}
-use Rattle.paper.specs.declared.Answer.TheVariants.{Done}
+use Rattle.paper.specs.Answers.{Done}
 use Rattle.paper.specs.declared.Version.TheVariants.{Two}
 use Rattle.paper.specs.Geometry.{fixed_regions, anonymous, reclaimed, Allowed}
 use Rattle.paper.specs.Image.{front}

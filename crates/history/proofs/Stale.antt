@@ -11,8 +11,7 @@ use lib.Dec.{eqb}
 use lib.ListN.{length, replicate}
 use Rattle.laws.specs.Bytes.{splice}
 use Rattle.paper.specs.declared.Geometry.{Geometry}
-use Rattle.paper.specs.declared.Answer.{Answer}
-use Rattle.paper.specs.declared.Answer.TheVariants.{Done, Opened, Refused}
+use Rattle.paper.specs.Answers.{Answer, Done, Opened, Refused}
 use Rattle.paper.specs.Geometry.{version3}
 use Rattle.paper.specs.Image.{front}
 use Rattle.paper.specs.Calls.{Call, lay, «open», grow, load, store, look, size, release, recover}

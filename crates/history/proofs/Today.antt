@@ -5,8 +5,7 @@ use mathlib.Core.List.{List, [], ◌∷◌}
 use native.Mathlib.Omega.{arith}
 use lib.ListN.{length}
 use Rattle.paper.specs.declared.Geometry.{Geometry}
-use Rattle.paper.specs.declared.Answer.{Answer}
-use Rattle.paper.specs.declared.Answer.TheVariants.{Done, Opened, Refused}
+use Rattle.paper.specs.Answers.{Answer, Done, Opened, Refused}
 use Rattle.paper.specs.declared.Version.TheVariants.{Two}
 use Rattle.paper.specs.Geometry.{version2}
 use Rattle.paper.specs.Image.{front, edition_of}

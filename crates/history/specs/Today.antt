@@ -2,8 +2,7 @@
 -- region alone. Where a call or a book has an edition, it is 0.
 use Rattle.std.specs.Prelude.{ℕ, ◌≤◌, ◌<◌, true, false, ◌≢◌, ◌≡◌, List, [], ◌∷◌, length}
 use Rattle.paper.specs.declared.Geometry.{Geometry}
-use Rattle.paper.specs.declared.Answer.{Answer}
-use Rattle.paper.specs.declared.Answer.TheVariants.{Done, Opened, Refused}
+use Rattle.paper.specs.Answers.{Answer, Done, Opened, Refused}
 use Rattle.paper.specs.declared.Version.TheVariants.{Two}
 use Rattle.paper.specs.Geometry.{version2, fixed_regions, no_region, index_bytes}
 use Rattle.paper.specs.Image.{front, version_of}

@@ -4,13 +4,14 @@ use mathlib.Core.Logic.{◌≢◌}
 use mathlib.Core.Path.{◌≡◌, refl, sym, ◌∙◌, ap, ap₂}
 use borrow.Author.Tests.{ne_eqb}
 use mathlib.Core.List.{List}
+use mathlib.Core.List.{List}
 use native.Mathlib.Omega.{arith}
 use native.Mathlib.Decide.{ℕ_discrete}
 use lib.Arith.{digits_div, digits_mod}
 use lib.IntN.{pos}
 use lib.ListN.{length}
 use Rattle.paper.specs.declared.Geometry.{Geometry}
-use Rattle.paper.specs.declared.Answer.{Answer}
+use Rattle.paper.specs.Answers.{Answer}
 use Rattle.paper.specs.Geometry.{last_edition, block_bytes, allowed, Allowed, capacity, most_book_pages}
 use Rattle.paper.specs.Image.{front, pages_of, edition_of}
 use Rattle.paper.specs.Calls.{Call, lay, «open», grow, load, store, look, size, release, recover, next_region}

@@ -1,7 +1,7 @@
 -- "A host in C or Rust calls them with numbers and byte slices only": a geometry by number, and an answer as one number.
 use Rattle.std.specs.Prelude.{ℕ, ◌+◌, ◌-◌, ◌*◌, ◌^◌, cond, List, eqb, ℤ, pos, negsuc}
 use Rattle.paper.specs.declared.Geometry.{Geometry}
-use Rattle.paper.specs.declared.Answer.{Answer}
+use Rattle.paper.specs.Answers.{Answer}
 use Rattle.paper.specs.Geometry.{bench, house}
 use Rattle.paper.specs.Outcomes.{number_of, value_of, edition_in, State, Outcome}
 

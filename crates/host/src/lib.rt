@@ -1,180 +1,158 @@
-// The calls for a host in C or Rust: numbers and byte slices only. Each is a line over the call of the same name.
+// Each call as a host in C or Rust sees it: one number, the refusal above and the value below. Whoever exports the calls chooses how a
+// geometry is named.
 #![tactic(auto)]
 
 ghost use Rattle.std.specs.Prelude.{◌≡◌, []};
-ghost use Rattle.paper.specs.declared.Version.TheVariants.{Two, Three};
 ghost use Rattle.paper.specs.Calls.{lay, «open», grow, load, store, size, release, recover};
 ghost use Rattle.paper.specs.Move.{move_outcome};
+ghost use Rattle.paper.specs.Answers.{Answer, answered, plain, counted, opened_as};
 ghost use Rattle.paper.specs.Outcomes.{lent, outcome};
 ghost use Rattle.host.specs.Host.{geometry_of, packed, sees, host_sees};
 
-use paper::{Answer, Edition, Geometry, Offset, Pages, Region, Version};
+use paper::{Book, Edition, Geometry, Offset, Pages, Refusal, Region, Version};
 
 // 2^56. A value lies below it, and a refusal is counted in it.
-const VALUE_END: u64 = 72057594037927936;
+const VALUE_END: u64 = 1 << 56;
 
 // 2^16. A region lies below it, and in open's value its edition is counted in it.
-const REGION_END: u64 = 65536;
+const REGION_END: u64 = 1 << 16;
 
-// A number that names no geometry gives one that no call allows.
+// A number that names no geometry gives one that no call allows, as the paper of hosts has it: each call then refuses with 1 by itself.
 #[tactic(auto, unfolding(crate::specs::Host::geometry_of))]
-fn geometry_of(n: u32) -> Geometry
+pub fn geometry_of(n: u32) -> Geometry
     ensures { result ≡ geometry_of n }
 {
-    if n == 0 {
-        return Geometry::BENCH;
+    match n {
+        0 => Geometry::BENCH,
+        1 => Geometry::HOUSE,
+        _ => Geometry {
+            page: 0,
+            pages: 0,
+            blocks: 0,
+            entries: 0,
+        },
     }
-    if n == 1 {
-        return Geometry::HOUSE;
+}
+
+pub fn book_of(region: u32, edition: u32) -> Book
+    ensures { (result.region.0 ≡ region) × (result.edition.0 ≡ edition) }
+{
+    Book {
+        region: Region(region),
+        edition: Edition(edition),
     }
-    Geometry {
-        page: 0,
-        pages: 0,
-        blocks: 0,
-        entries: 0,
+}
+
+// ---- an answer as one number
+
+// What an accepted call gives back: the paper's answer, and the number that a host gets for it.
+pub trait Value: Copy {
+    ghost told: { Self → Answer };
+
+    fn number(self) -> u64
+        ensures { result ≡ packed (told self) };
+}
+
+impl Value for () {
+    ghost told = { plain };
+
+    fn number(self) -> u64 {
+        0
+    }
+}
+
+impl Value for Pages {
+    ghost told = { counted };
+
+    fn number(self) -> u64 {
+        self.0
+    }
+}
+
+impl Value for Book {
+    ghost told = { opened_as };
+
+    fn number(self) -> u64 {
+        self.region.0 as u64 + self.edition.0 as u64 * REGION_END
     }
 }
 
 // A refusal's value is 0 and a value's refusal is 0, so nothing is added.
-pub fn pack(a: Answer) -> u64
-    ensures { result ≡ packed a }
+pub fn pack<T: Value>(answer: Result<T, Refusal>) -> u64
+    ensures { result ≡ packed (answered T.told answer) }
 {
-    match a {
-        Answer::Done(v) => v,
-        Answer::Opened { region, edition } => region.0 as u64 + edition.0 as u64 * REGION_END,
-        Answer::Refused(k) => (k as u64) * VALUE_END,
+    match answer {
+        Ok(value) => value.number(),
+        Err(refusal) => u8::from(refusal) as u64 * VALUE_END,
     }
 }
 
-#[unsafe(no_mangle)]
-pub extern "C" fn book_lay(geometry: u32, image: &mut [u8], index: &mut [u8]) -> u64
-    ensures { sees result [] (lent image.new index.new) ≡ host_sees (outcome (geometry_of geometry) (lay Three) (lent image.old index.old)) }
+// ---- the calls
+
+pub fn lay(g: Geometry, version: Version, image: &mut [u8], index: &mut [u8]) -> u64
+    ensures { sees result [] (lent image.new index.new) ≡ host_sees (outcome g (lay version) (lent image.old index.old)) }
 {
-    pack(laying::lay(geometry_of(geometry), Version::Three, image, index))
+    pack(laying::lay(g, version, image, index))
 }
 
-#[unsafe(no_mangle)]
-pub extern "C" fn book_lay_version_2(geometry: u32, image: &mut [u8], index: &mut [u8]) -> u64
-    ensures { sees result [] (lent image.new index.new) ≡ host_sees (outcome (geometry_of geometry) (lay Two) (lent image.old index.old)) }
+pub fn move_over(g: Geometry, image: &mut [u8], index: &mut [u8], pages: Pages) -> u64
+    ensures { sees result [] (lent image.new index.new) ≡ host_sees (move_outcome g pages.0 (lent image.old index.old)) }
 {
-    pack(laying::lay(geometry_of(geometry), Version::Two, image, index))
+    pack(moving::move_over(g, image, index, pages))
 }
 
-#[unsafe(no_mangle)]
-pub extern "C" fn book_move(geometry: u32, image: &mut [u8], index: &mut [u8], pages: u64) -> u64
-    ensures { sees result [] (lent image.new index.new) ≡ host_sees (move_outcome (geometry_of geometry) pages (lent image.old index.old)) }
+pub fn open(g: Geometry, image: &mut [u8], index: &mut [u8]) -> u64
+    ensures { sees result [] (lent image.new index.new) ≡ host_sees (outcome g «open» (lent image.old index.old)) }
 {
-    pack(moving::move_over(geometry_of(geometry), image, index, Pages(pages)))
+    pack(books::open(g, image, index))
 }
 
-#[unsafe(no_mangle)]
-pub extern "C" fn book_open(geometry: u32, image: &mut [u8], index: &mut [u8]) -> u64
-    ensures { sees result [] (lent image.new index.new) ≡ host_sees (outcome (geometry_of geometry) «open» (lent image.old index.old)) }
+pub fn grow(g: Geometry, image: &mut [u8], index: &mut [u8], book: Book, pages: Pages) -> u64
+    ensures { sees result [] (lent image.new index.new) ≡ host_sees (outcome g (grow book.region.0 book.edition.0 pages.0) (lent image.old index.old)) }
 {
-    pack(books::open(geometry_of(geometry), image, index))
+    pack(books::grow(g, image, index, book, pages))
 }
 
-#[unsafe(no_mangle)]
-pub extern "C" fn book_grow(
-    geometry: u32,
-    image: &mut [u8],
-    index: &mut [u8],
-    region: u32,
-    edition: u32,
-    pages: u64,
-) -> u64
-    ensures { sees result [] (lent image.new index.new) ≡ host_sees (outcome (geometry_of geometry) (grow region edition pages) (lent image.old index.old)) }
-{
-    pack(books::grow(
-        geometry_of(geometry),
-        image,
-        index,
-        Region(region),
-        Edition(edition),
-        Pages(pages),
-    ))
-}
-
-#[unsafe(no_mangle)]
-pub extern "C" fn book_load(
-    geometry: u32,
+pub fn load(
+    g: Geometry,
     image: &[u8],
     index: &[u8],
-    region: u32,
-    edition: u32,
-    offset: u64,
+    book: Book,
+    offset: Offset,
     buffer: &mut [u8],
 ) -> u64
-    ensures { sees result buffer.new (lent image.now index.now) ≡ host_sees (outcome (geometry_of geometry) (load region edition offset buffer.old) (lent image.now index.now)) }
+    ensures { sees result buffer.new (lent image.now index.now) ≡ host_sees (outcome g (load book.region.0 book.edition.0 offset.0 buffer.old) (lent image.now index.now)) }
 {
-    pack(contents::load(
-        geometry_of(geometry),
-        image,
-        index,
-        Region(region),
-        Edition(edition),
-        Offset(offset),
-        buffer,
-    ))
+    pack(contents::load(g, image, index, book, offset, buffer))
 }
 
-#[unsafe(no_mangle)]
-pub extern "C" fn book_store(
-    geometry: u32,
+pub fn store(
+    g: Geometry,
     image: &mut [u8],
     index: &[u8],
-    region: u32,
-    edition: u32,
-    offset: u64,
+    book: Book,
+    offset: Offset,
     bytes: &[u8],
 ) -> u64
-    ensures { sees result [] (lent image.new index.now) ≡ host_sees (outcome (geometry_of geometry) (store region edition offset bytes.now) (lent image.old index.now)) }
+    ensures { sees result [] (lent image.new index.now) ≡ host_sees (outcome g (store book.region.0 book.edition.0 offset.0 bytes.now) (lent image.old index.now)) }
 {
-    pack(contents::store(
-        geometry_of(geometry),
-        image,
-        index,
-        Region(region),
-        Edition(edition),
-        Offset(offset),
-        bytes,
-    ))
+    pack(contents::store(g, image, index, book, offset, bytes))
 }
 
-#[unsafe(no_mangle)]
-pub extern "C" fn book_size(geometry: u32, image: &[u8], region: u32, edition: u32) -> u64
-    ensures { sees result [] (lent image.now []) ≡ host_sees (outcome (geometry_of geometry) (size region edition) (lent image.now [])) }
+pub fn size(g: Geometry, image: &[u8], book: Book) -> u64
+    ensures { sees result [] (lent image.now []) ≡ host_sees (outcome g (size book.region.0 book.edition.0) (lent image.now [])) }
 {
-    pack(desk::size(
-        geometry_of(geometry),
-        image,
-        Region(region),
-        Edition(edition),
-    ))
+    pack(desk::size(g, image, book))
 }
 
-#[unsafe(no_mangle)]
-pub extern "C" fn book_release(
-    geometry: u32,
-    image: &mut [u8],
-    index: &mut [u8],
-    region: u32,
-    edition: u32,
-) -> u64
-    ensures { sees result [] (lent image.new index.new) ≡ host_sees (outcome (geometry_of geometry) (release region edition) (lent image.old index.old)) }
+pub fn release(g: Geometry, image: &mut [u8], index: &mut [u8], book: Book) -> u64
+    ensures { sees result [] (lent image.new index.new) ≡ host_sees (outcome g (release book.region.0 book.edition.0) (lent image.old index.old)) }
 {
-    pack(books::release(
-        geometry_of(geometry),
-        image,
-        index,
-        Region(region),
-        Edition(edition),
-    ))
+    pack(books::release(g, image, index, book))
 }
 
-#[unsafe(no_mangle)]
-pub extern "C" fn book_recover(geometry: u32, image: &[u8], index: &mut [u8]) -> u64
-    ensures { sees result [] (lent image.now index.new) ≡ host_sees (outcome (geometry_of geometry) recover (lent image.now index.old)) }
+pub fn recover(g: Geometry, image: &[u8], index: &mut [u8]) -> u64
+    ensures { sees result [] (lent image.now index.new) ≡ host_sees (outcome g recover (lent image.now index.old)) }
 {
-    pack(recovery::recover(geometry_of(geometry), image, index))
+    pack(recovery::recover(g, image, index))
 }

@@ -1,4 +1,4 @@
-// What a host in C or Rust links: the calls of host, each exported under its own name with its own promise.
+// What a host in C or Rust links: the calls of host, each exported under its own name with its own promise, over numbers and byte slices only.
 #![tactic(auto)]
 
 ghost use Rattle.std.specs.Prelude.{◌≡◌, []};
@@ -8,32 +8,35 @@ ghost use Rattle.paper.specs.Move.{move_outcome};
 ghost use Rattle.paper.specs.Outcomes.{lent, outcome};
 ghost use Rattle.host.specs.Host.{geometry_of, sees, host_sees};
 
+use host::{book_of, geometry_of};
+use paper::{Offset, Pages, Version};
+
 #[unsafe(no_mangle)]
 pub extern "C" fn book_lay(geometry: u32, image: &mut [u8], index: &mut [u8]) -> u64
     ensures { sees result [] (lent image.new index.new) ≡ host_sees (outcome (geometry_of geometry) (lay Three) (lent image.old index.old)) }
 {
-    host::book_lay(geometry, image, index)
+    host::lay(geometry_of(geometry), Version::Three, image, index)
 }
 
 #[unsafe(no_mangle)]
 pub extern "C" fn book_lay_version_2(geometry: u32, image: &mut [u8], index: &mut [u8]) -> u64
     ensures { sees result [] (lent image.new index.new) ≡ host_sees (outcome (geometry_of geometry) (lay Two) (lent image.old index.old)) }
 {
-    host::book_lay_version_2(geometry, image, index)
+    host::lay(geometry_of(geometry), Version::Two, image, index)
 }
 
 #[unsafe(no_mangle)]
 pub extern "C" fn book_move(geometry: u32, image: &mut [u8], index: &mut [u8], pages: u64) -> u64
     ensures { sees result [] (lent image.new index.new) ≡ host_sees (move_outcome (geometry_of geometry) pages (lent image.old index.old)) }
 {
-    host::book_move(geometry, image, index, pages)
+    host::move_over(geometry_of(geometry), image, index, Pages(pages))
 }
 
 #[unsafe(no_mangle)]
 pub extern "C" fn book_open(geometry: u32, image: &mut [u8], index: &mut [u8]) -> u64
     ensures { sees result [] (lent image.new index.new) ≡ host_sees (outcome (geometry_of geometry) «open» (lent image.old index.old)) }
 {
-    host::book_open(geometry, image, index)
+    host::open(geometry_of(geometry), image, index)
 }
 
 #[unsafe(no_mangle)]
@@ -47,7 +50,13 @@ pub extern "C" fn book_grow(
 ) -> u64
     ensures { sees result [] (lent image.new index.new) ≡ host_sees (outcome (geometry_of geometry) (grow region edition pages) (lent image.old index.old)) }
 {
-    host::book_grow(geometry, image, index, region, edition, pages)
+    host::grow(
+        geometry_of(geometry),
+        image,
+        index,
+        book_of(region, edition),
+        Pages(pages),
+    )
 }
 
 #[unsafe(no_mangle)]
@@ -62,7 +71,14 @@ pub extern "C" fn book_load(
 ) -> u64
     ensures { sees result buffer.new (lent image.now index.now) ≡ host_sees (outcome (geometry_of geometry) (load region edition offset buffer.old) (lent image.now index.now)) }
 {
-    host::book_load(geometry, image, index, region, edition, offset, buffer)
+    host::load(
+        geometry_of(geometry),
+        image,
+        index,
+        book_of(region, edition),
+        Offset(offset),
+        buffer,
+    )
 }
 
 #[unsafe(no_mangle)]
@@ -77,14 +93,21 @@ pub extern "C" fn book_store(
 ) -> u64
     ensures { sees result [] (lent image.new index.now) ≡ host_sees (outcome (geometry_of geometry) (store region edition offset bytes.now) (lent image.old index.now)) }
 {
-    host::book_store(geometry, image, index, region, edition, offset, bytes)
+    host::store(
+        geometry_of(geometry),
+        image,
+        index,
+        book_of(region, edition),
+        Offset(offset),
+        bytes,
+    )
 }
 
 #[unsafe(no_mangle)]
 pub extern "C" fn book_size(geometry: u32, image: &[u8], region: u32, edition: u32) -> u64
     ensures { sees result [] (lent image.now []) ≡ host_sees (outcome (geometry_of geometry) (size region edition) (lent image.now [])) }
 {
-    host::book_size(geometry, image, region, edition)
+    host::size(geometry_of(geometry), image, book_of(region, edition))
 }
 
 #[unsafe(no_mangle)]
@@ -97,12 +120,17 @@ pub extern "C" fn book_release(
 ) -> u64
     ensures { sees result [] (lent image.new index.new) ≡ host_sees (outcome (geometry_of geometry) (release region edition) (lent image.old index.old)) }
 {
-    host::book_release(geometry, image, index, region, edition)
+    host::release(
+        geometry_of(geometry),
+        image,
+        index,
+        book_of(region, edition),
+    )
 }
 
 #[unsafe(no_mangle)]
 pub extern "C" fn book_recover(geometry: u32, image: &[u8], index: &mut [u8]) -> u64
     ensures { sees result [] (lent image.now index.new) ≡ host_sees (outcome (geometry_of geometry) recover (lent image.now index.old)) }
 {
-    host::book_recover(geometry, image, index)
+    host::recover(geometry_of(geometry), image, index)
 }

@@ -14,28 +14,31 @@ use Rattle.laws.specs.Bytes.{num, put}
 use Rattle.laws.proofs.Tests.{and_left}
 use Rattle.laws.proofs.Folds.{all_below_lem, below_all, all_and, all_from_lem}
 use Rattle.laws.proofs.Bytes.{num_join, put_join}
-use Rattle.laws.proofs.Known.{Bytes, num_fits}
+use Rattle.std.specs.Prelude.{Option, None, Some}
+use Rattle.std.specs.Option.{is_some}
 use Rattle.paper.specs.declared.Geometry.{Geometry}
+use Rattle.paper.specs.declared.Pages.{Pages}
 use Rattle.paper.specs.Geometry.{version3, fixed_regions, size_bytes, half_bytes, all_ones, size_at, edition_at, front_bytes}
-use Rattle.paper.specs.Image.{not_open, size_width, front, version_of, counter, edition_of, is_open, set_size, set_edition, set_not_open}
+use Rattle.paper.specs.Image.{not_open, size_width, front, version_of, counter, size_of, edition_of, is_open, set_size, set_edition, set_not_open}
 use Rattle.paper.specs.WellFormed.{current, unreleased, editions_right, rule_a}
 use Rattle.rules.specs.Given.{High, given}
 use Rattle.rules.proofs.Cells.{version3_width, version2_width, coded_not_open, length-set_size, version_set_size, set_size-put, set_not_open_sizes, edition_kept, edition_lost}
 use Rattle.rules.proofs.Fronts.{size_read, open_read, edition_read, edition_none}
+use Rattle.rules.proofs.Facts.{is_open_lem, is_not_open}
 use Rattle.rules.proofs.Sentences.{given_open}
-use Rattle.image.specs.Entries.{fixed, fresh, released_entry}
+use Rattle.image.specs.Entries.{sized, fixed, fresh, released_entry}
 
 -- ---- an entry read whole: that of a region never given out has all ones for its size, and zeros in what is left
-halves : (low high : ℕ) → low < 256 ^ 4 → (x : ℕ) → x ≡ low + 256 ^ 4 * high
+halves : (low high x : ℕ) → x ≡ low + 256 ^ 4 * high
     → eqb x (all_ones half_bytes) ≡ (not (not (eqb low (all_ones half_bytes))) && eqb high 0)
-halves low high f x e = go (ℕ_discrete low (all_ones half_bytes)) (ℕ_discrete high 0)
+halves low high x e = go (ℕ_discrete low (all_ones half_bytes)) (ℕ_discrete high 0)
   where
     go : Dec (low ≡ all_ones half_bytes) → Dec (high ≡ 0) → eqb x (all_ones half_bytes) ≡ (not (not (eqb low (all_ones half_bytes))) && eqb high 0)
     go (yes a) (yes z) = rw (eq-eqb x (all_ones half_bytes) (omega arith), eq-eqb low (all_ones half_bytes) a, eq-eqb high 0 z)
     go (yes a) (no z) = rw (ne_eqb x (all_ones half_bytes) (λ n. z (omega arith)), eq-eqb low (all_ones half_bytes) a, ne_eqb high 0 z)
     go (no a) _ = rw (ne_eqb x (all_ones half_bytes) (λ n. a (omega arith)), ne_eqb low (all_ones half_bytes) a)
 
-module _ (g : Geometry) (image : List ℕ) (bytes : Bytes image) (r : ℕ) (h : r < g.entries) where
+module _ (g : Geometry) (image : List ℕ) (r : ℕ) (h : r < g.entries) where
   abbrev t : List ℕ
   t = front g image
 
@@ -55,7 +58,7 @@ module _ (g : Geometry) (image : List ℕ) (bytes : Bytes image) (r : ℕ) (h : 
   fresh_3 d =
       let v = version_of g t in
       let o = open_read g image r h 4 low (size_read g image r h 4 (version3_width v d)) in
-      rw (← o, ← edition_read g image r h d) (halves low high (num_fits 4 image (size_at g r) bytes) entry (num_join 4 4 image (size_at g r)))
+      rw (← o, ← edition_read g image r h d) (halves low high entry (num_join 4 4 image (size_at g r)))
     where
       low : ℕ
       low = num 4 image (size_at g r)
@@ -135,3 +138,18 @@ module _ (g : Geometry) (t : List ℕ) where
       go : (r : ℕ) → Dec (r < given g t) → current g t r ≡ true
       go r (yes l) = all_below_lem (given g t) (current g t) e r l
       go r (no l) = rw (given_open g t high r (omega arith))
+
+  -- so all of them are current where those that count are
+  pub given_current : High g t → all_below (given g t) (current g t) ≡ all_below g.entries (current g t)
+  given_current high = go _ _ refl refl
+    where
+      go : (a b : Bool) → all_below (given g t) (current g t) ≡ a → all_below g.entries (current g t) ≡ b → a ≡ b
+      go true b d e = sym (current_given high d) ∙ e
+      go false false d e = refl
+      go false true d e = sym d ∙ below_all (given g t) (current g t) (λ r l. all_below_lem g.entries (current g t) e r (omega arith))
+
+-- ---- what an entry says of its book
+module _ (g : Geometry) (t : List ℕ) (r : ℕ) where
+  pub open_sized : r < g.entries → (o : Option Pages) → size_of g t r ≡ sized o → is_some o ≡ is_open g t r
+  open_sized h (Some n) e = sym (is_open_lem g t r h n.0 e)
+  open_sized h None e = sym (is_not_open g t r e)

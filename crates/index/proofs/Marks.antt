@@ -1,5 +1,5 @@
 -- Bits in bytes: what is read of one after another was set.
-use Prim.Native.Nat.{ℕ, zero, suc, ◌+◌, ◌-◌, ◌*◌, ◌/◌, ◌%◌, ◌^◌, ◌<◌}
+use Prim.Native.Nat.{ℕ, zero, suc, ◌+◌, ◌-◌, ◌*◌, ◌/◌, ◌%◌, ◌^◌, ◌≤◌, ◌<◌}
 use mathlib.Core.Bool.{Bool, true, false, ◌&&◌}
 use mathlib.Core.Logic.{◌≢◌}
 use mathlib.Core.Path.{◌≡◌, refl, sym, ◌∙◌, ap}
@@ -10,7 +10,7 @@ use native.Mathlib.Numerals.{add-one}
 use native.Mathlib.Decide.{ℕ_discrete}
 use borrow.Author.Tests.{eqb-true, eq-eqb, ne_eqb}
 use lib.Bits.{bit_and, bit_or, and_high, and_zero_r, or_shr, or_mod, or_zero_r}
-use lib.Pow.{pow_pos}
+use lib.Pow.{pow_pos, shl_exact}
 use lib.Dec.{eqb}
 use lib.ListN.{set, length}
 use lib.Seq.{get_or-set_same, get_or-set_other}
@@ -30,6 +30,10 @@ digit_both false true = refl
 digit_both false false = refl
 
 -- ---- the bits of a byte
+-- a bit of it is not shifted out
+pub bit_fits : (one s : ℕ) → one ≤ 1 → one * 2 ^ (s % 8) % 256 ≡ one * 2 ^ (s % 8)
+bit_fits one s h = shl_exact {a = one} 1 (s % 8) 8 (omega arith) (omega arith)
+
 abbrev bit_of : ℕ → ℕ → ℕ
 bit_of x k = x / 2 ^ k % 2
 

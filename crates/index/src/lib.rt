@@ -5,221 +5,205 @@ ghost use Rattle.std.specs.Prelude.{◌≡◌, ◌+◌, ◌*◌, ◌/◌, ◌≤
 ghost use Rattle.laws.specs.Bytes.{put};
 ghost use Rattle.laws.specs.Folds.{all_below, all_from};
 ghost use Rattle.paper.specs.Geometry.{slot_at};
-ghost use Rattle.paper.specs.Image.{front, taken};
+ghost use Rattle.paper.specs.Image.{taken};
 ghost use Rattle.paper.specs.Index.{index_of, start_of, start_in, slot_in};
 ghost use Rattle.paper.specs.WellFormed.{alone};
-ghost use Rattle.rules.specs.Facts.{Rules, Readable, Indexed, slot_for};
+ghost use Rattle.rules.specs.Facts.{Rules, Indexed, slot_for};
 ghost use Rattle.rules.specs.Given.{High};
+ghost use Rattle.image.specs.Views.{front_of};
 ghost use Rattle.index.specs.Slotted.{Tabled};
 ghost use Rattle.index.specs.Witnessed.{Starts, Spare, Witness, Summed, start_right, starts_right, step_right, block_right, spare_right, witnessed};
-ghost use Rattle.index.specs.Repeats.{regions_at_once, mark_bytes, digit, unseen, marked, apart, slot_by, in_window, StartsFrom, Framed, All, Run};
+ghost use Rattle.index.specs.Repeats.{regions_at_once, digit, unseen, marked, apart, slot_by, in_window, StartsFrom, Framed, All, Run};
 
+use image::Image;
+use numbers::Number;
 use paper::{Block, Geometry, Region};
+
+// An index of an allowed geometry, of its length: refusals 1 and 2 do not apply.
+#[derive(Clone, Copy)]
+pub struct Index<'a> {
+    pub g: Geometry,
+    pub bytes: &'a [u8],
+    pub ghost indexed: { Indexed g bytes.now },
+}
+
+// An image and the index that is lent with it: refusals 1 to 3 do not apply.
+#[derive(Clone, Copy)]
+pub struct Lent<'a, 'b> {
+    pub image: Image<'a>,
+    pub index: Index<'b>,
+    pub ghost same: { index.g ≡ image.g },
+}
+
+// Tables in which each block below N has a slot, and two may have the same one: rule c holds, and d but for its last sentence.
+#[derive(Clone, Copy)]
+pub struct Tables<'a> {
+    pub image: Image<'a>,
+    pub ghost tabled: { Tabled image.g image.bytes.now },
+}
 
 // ---- what an index says
 
-pub fn start_in(g: Geometry, index: &[u8], r: Region) -> u16
-    requires indexed { Indexed g index.now }
-    requires r_le_entries { r.0 ≤ g.entries }
-    ensures { result ≡ start_in g index.now r.0 }
-{
-    numbers::read_u16(index, g.start_at(r))
-}
+impl Index<'_> {
+    pub fn start(&self, r: Region) -> u16
+        requires r_le_entries { r.0 ≤ self.now.g.entries }
+        ensures { result ≡ start_in self.now.g self.now.bytes.now r.0 }
+    {
+        u16::read(self.bytes, self.g.start_at(r))
+    }
 
-// NO_BLOCK in an unused slot.
-pub fn slot_in(g: Geometry, index: &[u8], s: usize) -> Block
-    requires indexed { Indexed g index.now }
-    requires s_lt_blocks { s < g.blocks }
-    ensures { result.0 ≡ slot_in g index.now s }
-{
-    Block(numbers::read_u16(index, g.slot_at(s)))
-}
-
-// Block b's slot, where the index has its starts.
-fn slot_for(g: Geometry, image: &[u8], index: &[u8], b: Block) -> usize
-    requires tabled { Tabled g image.now × Indexed g index.now }
-    requires starts { Starts g (front g image.now) index.now }
-    requires b_bound { b.0 < taken g (front g image.now) }
-    ensures { result ≡ slot_for g (front g image.now) b.0 }
-{
-    let start = start_in(g, index, image::owner(g, image, b)) as usize;
-    let place = image::place(g, image, b).0;
-    start + place
+    // NO_BLOCK in an unused slot, as the format has it: slots are compared with numbers, and an Option would be taken apart for each.
+    pub fn slot(&self, s: usize) -> Block
+        requires s_lt_blocks { s < self.now.g.blocks }
+        ensures { result.0 ≡ slot_in self.now.g self.now.bytes.now s }
+    {
+        Block(u16::read(self.bytes, self.g.slot_at(s)))
+    }
 }
 
 // ---- its writing
 
-// From C on no region has blocks, so that each starts where they end.
-fn write_starts(g: Geometry, image: &[u8], index: &mut [u8])
-    requires tabled { Tabled g image.now × Indexed g index.old }
-    requires high { High g (front g image.now) }
-    ensures { Starts g (front g image.now) index.new }
-{
-    let end = image::given_out(g, image);
-    let mut start: u64 = 0;
-    for r in 0..end.0 {
-        numbers::write_u16(index, g.start_at(Region(r)), start as u16);
-        start += image::need(g, image, Region(r));
+impl Tables<'_> {
+    // From C on no region has blocks, so that each starts where they end.
+    fn write_starts(&self, index: &mut [u8])
+        requires indexed { Indexed self.now.image.g index.old }
+        requires high { High self.now.image.g (front_of self.now.image) }
+        ensures { Starts self.now.image.g (front_of self.now.image) index.new }
+    {
+        let g = self.image.g;
+        let end = self.image.given_out();
+        let mut start: u64 = 0;
+        for r in 0..end.0 {
+            (start as u16).write(index, g.start_at(Region(r)));
+            start += self.image.need(Region(r));
+        }
+        numbers::fill_u16(
+            index,
+            g.start_at(end),
+            g.entries + 1 - end.0 as usize,
+            start as u16,
+        );
     }
-    numbers::fill_u16(
-        index,
-        g.start_at(end),
-        g.entries + 1 - end.0 as usize,
-        start as u16,
-    );
-}
 
-fn put_block(g: Geometry, image: &[u8], index: &mut [u8], b: Block)
-    requires tabled { Tabled g image.now × Indexed g index.old }
-    requires starts { Starts g (front g image.now) index.old }
-    requires b_bound { b.0 < taken g (front g image.now) }
-    ensures { index.new ≡ put 2 (slot_at g (slot_for g (front g image.now) b.0)) b.0 index.old }
-{
-    let s = slot_for(g, image, index, b);
-    numbers::write_u16(index, g.slot_at(s), b.0);
-}
+    // Block b into its slot, where the index has its starts.
+    fn put_block(&self, index: &mut [u8], b: Block)
+        requires indexed { Indexed self.now.image.g index.old }
+        requires starts { Starts self.now.image.g (front_of self.now.image) index.old }
+        requires b_bound { b.0 < taken self.now.image.g (front_of self.now.image) }
+        ensures { index.new ≡ put 2 (slot_at self.now.image.g (slot_for self.now.image.g (front_of self.now.image) b.0)) b.0 index.old }
+    {
+        let g = self.image.g;
+        let before = Index { g, bytes: index };
+        let start = before.start(self.image.owner(b)) as usize;
+        let place = self.image.place(b).0;
+        b.0.write(index, g.slot_at(start + place));
+    }
 
-fn put_blocks(g: Geometry, image: &[u8], index: &mut [u8])
-    requires tabled { Tabled g image.now × Indexed g index.old }
-    requires rules { Rules g (front g image.now) }
-    requires starts { Starts g (front g image.now) index.old }
-    requires spare { Spare g (front g image.now) index.old }
-    ensures { Witness g (front g image.now) index.new }
-{
-    for b in 0..image::taken(g, image) {
-        put_block(g, image, index, Block(b));
+    fn put_blocks(&self, index: &mut [u8])
+        requires indexed { Indexed self.now.image.g index.old }
+        requires rules { Rules self.now.image.g (front_of self.now.image) }
+        requires starts { Starts self.now.image.g (front_of self.now.image) index.old }
+        requires spare { Spare self.now.image.g (front_of self.now.image) index.old }
+        ensures { Witness self.now.image.g (front_of self.now.image) index.new }
+    {
+        for b in 0..self.image.taken() {
+            self.put_block(index, Block(b));
+        }
     }
 }
 
 // The whole index, whatever it held: the starts; no block in any slot; then each block in its own.
-pub fn write_index(g: Geometry, image: &[u8], index: &mut [u8])
-    requires readable { Readable g image.now × Indexed g index.old }
-    requires image_bound { taken g (front g image.now) ≤ g.blocks }
-    requires rules { Rules g (front g image.now) }
-    ensures { index.new ≡ index_of g (front g image.now) }
+pub fn write_index(image: &Image<'_>, index: &mut [u8])
+    requires indexed { Indexed image.now.g index.old }
+    requires image_bound { taken image.now.g (front_of image.now) ≤ image.now.g.blocks }
+    requires rules { Rules image.now.g (front_of image.now) }
+    ensures { index.new ≡ index_of image.now.g (front_of image.now) }
 {
-    write_starts(g, image, index);
+    let g = image.g;
+    let tables = Tables { image: *image };
+    tables.write_starts(index);
     numbers::fill_u16(index, g.slot_at(0), g.blocks, paper::NO_BLOCK.0);
-    put_blocks(g, image, index);
+    tables.put_blocks(index);
 }
 
 // ---- its check against the tables
 
-// Start r + 1 is as far from start r as region r needs.
-fn step_right(g: Geometry, image: &[u8], index: &[u8], r: Region) -> bool
-    requires readable { Readable g image.now × Indexed g index.now }
-    requires r_lt_entries { r.0 < g.entries }
-    ensures { result ≡ step_right g (front g image.now) index.now r.0 }
-{
-    let start = start_in(g, index, r) as u64;
-    let next = start_in(g, index, Region(r.0 + 1)) as u64;
-    if next < start {
-        return false;
+impl Index<'_> {
+    // The starts from that of region `end` on are all n.
+    fn ends_right(&self, end: Region, n: u16) -> bool
+        requires end_le_entries { end.0 ≤ self.now.g.entries }
+        ensures { result ≡ all_from end.0 (self.now.g.entries + 1) (λ r. eqb (start_in self.now.g self.now.bytes.now r) n) }
+    {
+        (end.0 as usize..self.g.entries + 1).all(|r| self.start(Region(r as u32)) == n)
     }
-    image::is_need(g, image, r, next - start)
 }
 
-// The starts up to that of region `end`.
-fn steps_right(g: Geometry, image: &[u8], index: &[u8], end: Region) -> bool
-    requires readable { Readable g image.now × Indexed g index.now }
-    requires end_le_entries { end.0 ≤ g.entries }
-    ensures { result ≡ all_below (end.0 + 1) (start_right g (front g image.now) index.now) }
-{
-    if start_in(g, index, Region(0)) != 0 {
-        return false;
+impl Lent<'_, '_> {
+    // Start r + 1 is as far from start r as region r needs.
+    fn step_right(&self, r: Region) -> bool
+        requires r_lt_entries { r.0 < self.now.image.g.entries }
+        ensures { result ≡ step_right self.now.image.g (front_of self.now.image) self.now.index.bytes.now r.0 }
+    {
+        let start = self.index.start(r) as u64;
+        let next = self.index.start(Region(r.0 + 1)) as u64;
+        start <= next && self.image.is_need(r, next - start)
     }
-    for r in 0..end.0 {
-        if !step_right(g, image, index, Region(r)) {
+
+    // The starts up to that of region `end`.
+    fn steps_right(&self, end: Region) -> bool
+        requires end_le_entries { end.0 ≤ self.now.image.g.entries }
+        ensures { result ≡ all_below (end.0 + 1) (start_right self.now.image.g (front_of self.now.image) self.now.index.bytes.now) }
+    {
+        self.index.start(Region(0)) == 0 && (0..end.0).all(|r| self.step_right(Region(r)))
+    }
+
+    // Every start is right, and the last is N. From C on no region has blocks, so that each starts where they end.
+    fn starts_right(&self) -> bool
+        requires high { High self.now.image.g (front_of self.now.image) }
+        ensures { result ≡ starts_right self.now.image.g (front_of self.now.image) self.now.index.bytes.now }
+    {
+        let end = self.image.given_out();
+        self.steps_right(end) && self.index.ends_right(end, self.image.taken())
+    }
+
+    // The starts tell what a region needs.
+    fn block_right(&self, b: Block) -> bool
+        requires summed { Summed self.now.image.g (front_of self.now.image) self.now.index.bytes.now }
+        requires b_bound { b.0 < taken self.now.image.g (front_of self.now.image) }
+        ensures { result ≡ block_right self.now.image.g (front_of self.now.image) self.now.index.bytes.now b.0 }
+    {
+        let r = self.image.owner(b);
+        if self.image.g.entries <= r.0 as usize {
             return false;
         }
+        let start = self.index.start(r) as usize;
+        let need = self.index.start(Region(r.0 + 1)) as usize - start;
+        let place = self.image.place(b).0;
+        place < need && self.index.slot(start + place) == b
     }
-    true
-}
 
-// The starts from that of region `end` on are all n.
-fn ends_right(g: Geometry, index: &[u8], end: Region, n: u16) -> bool
-    requires indexed { Indexed g index.now }
-    requires end_le_entries { end.0 ≤ g.entries }
-    ensures { result ≡ all_from end.0 (g.entries + 1) (λ r. eqb (start_in g index.now r) n) }
-{
-    for r in end.0 as usize..g.entries + 1 {
-        if start_in(g, index, Region(r as u32)) != n {
-            return false;
-        }
+    fn blocks_right(&self) -> bool
+        requires summed { Summed self.now.image.g (front_of self.now.image) self.now.index.bytes.now }
+        ensures { result ≡ all_below (taken self.now.image.g (front_of self.now.image)) (block_right self.now.image.g (front_of self.now.image) self.now.index.bytes.now) }
+    {
+        (0..self.image.taken()).all(|b| self.block_right(Block(b)))
     }
-    true
-}
 
-// Every start is right, and the last is N. From C on no region has blocks, so that each starts where they end.
-fn starts_right(g: Geometry, image: &[u8], index: &[u8]) -> bool
-    requires readable { Readable g image.now × Indexed g index.now }
-    requires high { High g (front g image.now) }
-    ensures { result ≡ starts_right g (front g image.now) index.now }
-{
-    let end = image::given_out(g, image);
-    if !steps_right(g, image, index, end) {
-        return false;
+    fn spare_right(&self) -> bool
+        requires image_bound { taken self.now.image.g (front_of self.now.image) ≤ self.now.image.g.blocks }
+        ensures { result ≡ all_from (taken self.now.image.g (front_of self.now.image)) self.now.image.g.blocks (spare_right self.now.image.g (front_of self.now.image) self.now.index.bytes.now) }
+    {
+        let n = self.image.taken() as usize;
+        (n..self.image.g.blocks).all(|s| self.index.slot(s) == paper::NO_BLOCK)
     }
-    ends_right(g, index, end, image::taken(g, image))
-}
 
-// The starts tell what a region needs.
-fn block_right(g: Geometry, image: &[u8], index: &[u8], b: Block) -> bool
-    requires readable { Readable g image.now × Indexed g index.now }
-    requires summed { Summed g (front g image.now) index.now }
-    requires b_bound { b.0 < taken g (front g image.now) }
-    ensures { result ≡ block_right g (front g image.now) index.now b.0 }
-{
-    let r = image::owner(g, image, b);
-    if g.entries <= r.0 as usize {
-        return false;
+    // Whether the index says of each region what it needs, and of each block below N where it stands, so that no two name the same pair.
+    pub fn witnessed(&self) -> bool
+        requires high { High self.now.image.g (front_of self.now.image) × (taken self.now.image.g (front_of self.now.image) ≤ self.now.image.g.blocks) }
+        ensures { result ≡ witnessed self.now.image.g (front_of self.now.image) self.now.index.bytes.now }
+    {
+        self.starts_right() && self.blocks_right() && self.spare_right()
     }
-    let s = start_in(g, index, r) as usize + image::place(g, image, b).0;
-    if start_in(g, index, Region(r.0 + 1)) as usize <= s {
-        return false;
-    }
-    slot_in(g, index, s).0 == b.0
-}
-
-fn blocks_right(g: Geometry, image: &[u8], index: &[u8]) -> bool
-    requires readable { Readable g image.now × Indexed g index.now }
-    requires summed { Summed g (front g image.now) index.now }
-    ensures { result ≡ all_below (taken g (front g image.now)) (block_right g (front g image.now) index.now) }
-{
-    for b in 0..image::taken(g, image) {
-        if !block_right(g, image, index, Block(b)) {
-            return false;
-        }
-    }
-    true
-}
-
-fn spare_right(g: Geometry, image: &[u8], index: &[u8]) -> bool
-    requires readable { Readable g image.now × Indexed g index.now }
-    requires image_bound { taken g (front g image.now) ≤ g.blocks }
-    ensures { result ≡ all_from (taken g (front g image.now)) g.blocks (spare_right g (front g image.now) index.now) }
-{
-    for s in image::taken(g, image) as usize..g.blocks {
-        if slot_in(g, index, s).0 != paper::NO_BLOCK.0 {
-            return false;
-        }
-    }
-    true
-}
-
-// Whether the index says of each region what it needs, and of each block below N where it stands, so that no two name the same pair.
-pub fn witnessed(g: Geometry, image: &[u8], index: &[u8]) -> bool
-    requires readable { Readable g image.now × Indexed g index.now }
-    requires high { High g (front g image.now) × (taken g (front g image.now) ≤ g.blocks) }
-    ensures { result ≡ witnessed g (front g image.now) index.now }
-{
-    if !starts_right(g, image, index) {
-        return false;
-    }
-    if !blocks_right(g, image, index) {
-        return false;
-    }
-    spare_right(g, image, index)
 }
 
 // ---- whether two blocks name the same pair, from the tables alone
@@ -230,7 +214,7 @@ const REGIONS_AT_ONCE: usize = 6144;
 
 const SLOTS_AT_ONCE: usize = 32768;
 
-const MARK_BYTES: usize = 4096;
+const MARK_BYTES: usize = SLOTS_AT_ONCE / 8;
 
 // Regions from `first` up to `last`, and of their slots those from `from` up to `to`.
 #[derive(Clone, Copy)]
@@ -241,27 +225,11 @@ struct Window {
     to: usize,
 }
 
-// The starts of the regions from `first` up to `last`, of which `start` is the first; answers the start after them.
-fn read_starts(
-    g: Geometry,
-    image: &[u8],
-    first: Region,
-    last: Region,
-    start: usize,
-    starts: &mut [u16],
-) -> usize
-    requires tabled { Tabled g image.now }
-    requires first_le_last { (first.0 ≤ last.0) × (last.0 ≤ g.entries) × (last.0 ≤ first.0 + length starts.old) }
-    requires start_value { start ≡ start_of g (front g image.now) first.0 }
-    ensures { (result ≡ start_of g (front g image.now) last.0) × StartsFrom g (front g image.now) first.0 last.0 starts.new }
-{
-    let mut sum = start;
-    for r in first.0..last.0 {
-        let nth = (r - first.0) as usize;
-        starts[nth] = sum as u16;
-        sum += image::need(g, image, Region(r)) as usize;
-    }
-    sum
+// What a pass works with: the starts of the window's regions, and a bit for each of its slots.
+#[derive(Drop)]
+struct Work {
+    starts: [u16; REGIONS_AT_ONCE],
+    seen: [u8; MARK_BYTES],
 }
 
 // 1 where two numbers are of one run of so many, and 0 elsewhere: a digit, since a branch that the processor cannot foretell costs
@@ -270,26 +238,7 @@ fn same_run(size: usize, a: usize, b: usize) -> u8
     requires { 0 < size }
     ensures { result ≡ digit (eqb (a / size) (b / size)) }
 {
-    if a / size == b / size { 1 } else { 0 }
-}
-
-// Block b's slot, where its region's start is among those at hand; some number elsewhere.
-fn slot_by(g: Geometry, image: &[u8], starts: &[u16], b: Block) -> usize
-    requires readable { Readable g image.now × (b.0 < g.blocks) }
-    requires starts_len { length starts.now ≡ regions_at_once }
-    ensures { result ≡ slot_by g (front g image.now) starts.now b.0 }
-{
-    let nth = image::owner(g, image, b).0 as usize % REGIONS_AT_ONCE;
-    starts[nth] as usize + image::place(g, image, b).0
-}
-
-// 1 for a block of the window's, whose slot is s then; 0 for any other.
-fn in_window(g: Geometry, image: &[u8], w: Window, s: usize, b: Block) -> u8
-    requires { Readable g image.now × (b.0 < g.blocks) }
-    ensures { result ≡ digit (in_window g (front g image.now) w s b.0) }
-{
-    let r = image::owner(g, image, b).0 as usize;
-    same_run(REGIONS_AT_ONCE, r, w.first.0 as usize) & same_run(SLOTS_AT_ONCE, s, w.from)
+    u8::from(a / size == b / size)
 }
 
 // Sets bit s where `one` is 1; false where it was set already.
@@ -304,83 +253,114 @@ fn mark(seen: &mut [u8], s: usize, one: u8) -> bool
     before & bit == 0
 }
 
-// One pass over the blocks for a window that `seen` has bits for.
-fn window_apart(g: Geometry, image: &[u8], w: Window, starts: &[u16], seen: &mut [u8]) -> bool
-    requires tabled { Tabled g image.now × Framed g (front g image.now) w starts.now }
-    requires run { Run g (front g image.now) w × (length seen.old ≡ mark_bytes) }
-    ensures { result ≡ apart g (front g image.now) w.from w.to }
-{
-    numbers::zero(seen);
-    for b in 0..image::taken(g, image) {
-        let s = slot_by(g, image, starts, Block(b));
-        let one = in_window(g, image, w, s, Block(b));
-        if !mark(seen, s % SLOTS_AT_ONCE, one) {
-            return false;
+impl Tables<'_> {
+    // The starts of the regions from `first` up to `last`, of which `start` is the first; answers the start after them. Each is written by its
+    // number: of what an `iter_mut` under `zip` has lent a proof knows nothing afterwards.
+    fn read_starts(&self, first: Region, last: Region, start: usize, starts: &mut [u16]) -> usize
+        requires first_le_last { (first.0 ≤ last.0) × (last.0 ≤ self.now.image.g.entries) × (last.0 ≤ first.0 + length starts.old) }
+        requires start_value { start ≡ start_of self.now.image.g (front_of self.now.image) first.0 }
+        ensures { (result ≡ start_of self.now.image.g (front_of self.now.image) last.0) × StartsFrom self.now.image.g (front_of self.now.image) first.0 last.0 starts.new }
+    {
+        let mut sum = start;
+        for r in first.0..last.0 {
+            let nth = (r - first.0) as usize;
+            starts[nth] = sum as u16;
+            sum += self.image.need(Region(r)) as usize;
         }
+        sum
     }
-    true
-}
 
-// All slots of the window's regions, run by run.
-fn windows_apart(g: Geometry, image: &[u8], w: Window, starts: &[u16], seen: &mut [u8]) -> bool
-    requires tabled { Tabled g image.now × Framed g (front g image.now) w starts.now }
-    requires all { All g (front g image.now) w × (length seen.old ≡ mark_bytes) }
-    ensures { result ≡ apart g (front g image.now) w.from w.to }
-{
-    let mut from = w.from;
-    while from < w.to {
-        let to = numbers::lesser(w.to, (from / SLOTS_AT_ONCE + 1) * SLOTS_AT_ONCE);
-        let first = w.first;
-        let last = w.last;
-        let part = Window {
-            first,
-            last,
-            from,
-            to,
+    // Block b's slot, where its region's start is among those at hand; some number elsewhere.
+    fn slot_by(&self, starts: &[u16], b: Block) -> usize
+        requires b_bound { b.0 < taken self.now.image.g (front_of self.now.image) }
+        requires starts_len { length starts.now ≡ regions_at_once }
+        ensures { result ≡ slot_by self.now.image.g (front_of self.now.image) starts.now b.0 }
+    {
+        let nth = self.image.owner(b).0 as usize % REGIONS_AT_ONCE;
+        starts[nth] as usize + self.image.place(b).0
+    }
+
+    // 1 for a block of the window's, whose slot is s then; 0 for any other.
+    fn in_window(&self, w: Window, s: usize, b: Block) -> u8
+        requires { b.0 < self.now.image.g.blocks }
+        ensures { result ≡ digit (in_window self.now.image.g (front_of self.now.image) w s b.0) }
+    {
+        let r = self.image.owner(b).0 as usize;
+        same_run(REGIONS_AT_ONCE, r, w.first.0 as usize) & same_run(SLOTS_AT_ONCE, s, w.from)
+    }
+
+    // One pass over the blocks for a window that `seen` has bits for. Not by `all`, since each block changes what the next is held against.
+    fn window_apart(&self, w: Window, work: &mut Work) -> bool
+        requires framed { Framed self.now.image.g (front_of self.now.image) w work.old.starts }
+        requires run { Run self.now.image.g (front_of self.now.image) w }
+        ensures value { result ≡ apart self.now.image.g (front_of self.now.image) w.from w.to }
+        ensures kept { work.new.starts ≡ work.old.starts }
+    {
+        numbers::zero(&mut work.seen);
+        for b in 0..self.image.taken() {
+            let s = self.slot_by(&work.starts, Block(b));
+            let one = self.in_window(w, s, Block(b));
+            if !mark(&mut work.seen, s % SLOTS_AT_ONCE, one) {
+                return false;
+            }
+        }
+        true
+    }
+
+    // All slots of the window's regions, run by run. It steps by hand: a range over the runs would have one pass too many where no slot is left.
+    fn windows_apart(&self, w: Window, work: &mut Work) -> bool
+        requires framed { Framed self.now.image.g (front_of self.now.image) w work.old.starts }
+        requires all { All self.now.image.g (front_of self.now.image) w }
+        ensures { result ≡ apart self.now.image.g (front_of self.now.image) w.from w.to }
+    {
+        let mut from = w.from;
+        while from < w.to {
+            let to = w.to.min((from / SLOTS_AT_ONCE + 1) * SLOTS_AT_ONCE);
+            let part = Window { from, to, ..w };
+            if !self.window_apart(part, work) {
+                return false;
+            }
+            from = to;
+        }
+        true
+    }
+
+    // All regions, by as many as `starts` has room for, until no slot is left. A pass for regions that hold no block is left out.
+    // It steps by hand: a range over the regions would read those too that come after the last slot.
+    fn all_apart(&self, work: &mut Work) -> bool
+        ensures { result ≡ apart self.now.image.g (front_of self.now.image) 0 (taken self.now.image.g (front_of self.now.image)) }
+    {
+        let n = self.image.taken() as usize;
+        let mut r = 0;
+        let mut from = 0;
+        while from < n {
+            let end = r + REGIONS_AT_ONCE.min(self.image.g.entries - r);
+            let first = Region(r as u32);
+            let last = Region(end as u32);
+            let to = self.read_starts(first, last, from, &mut work.starts);
+            let w = Window {
+                first,
+                last,
+                from,
+                to,
+            };
+            if !self.windows_apart(w, work) {
+                return false;
+            }
+            r = end;
+            from = to;
+        }
+        true
+    }
+
+    // Whether no two blocks name the same pair, in at most E / 6,144 + N / 32,768 + 1 passes over the blocks.
+    pub fn alone_all(&self) -> bool
+        ensures { result ≡ all_below (taken self.now.image.g (front_of self.now.image)) (alone self.now.image.g (front_of self.now.image)) }
+    {
+        let mut work = Work {
+            starts: [0; REGIONS_AT_ONCE],
+            seen: [0; MARK_BYTES],
         };
-        if !window_apart(g, image, part, starts, seen) {
-            return false;
-        }
-        from = to;
+        self.all_apart(&mut work)
     }
-    true
-}
-
-// All regions, by as many as `starts` has room for, until no slot is left. A pass for regions that hold no block is left out.
-fn all_apart(g: Geometry, image: &[u8], starts: &mut [u16], seen: &mut [u8]) -> bool
-    requires tabled { Tabled g image.now }
-    requires starts_len { (length starts.old ≡ regions_at_once) × (length seen.old ≡ mark_bytes) }
-    ensures { result ≡ apart g (front g image.now) 0 (taken g (front g image.now)) }
-{
-    let n = image::taken(g, image) as usize;
-    let mut r = 0;
-    let mut from = 0;
-    while from < n {
-        let end = r + numbers::lesser(g.entries - r, REGIONS_AT_ONCE);
-        let first = Region(r as u32);
-        let last = Region(end as u32);
-        let to = read_starts(g, image, first, last, from, starts);
-        let w = Window {
-            first,
-            last,
-            from,
-            to,
-        };
-        if !windows_apart(g, image, w, starts, seen) {
-            return false;
-        }
-        r = end;
-        from = to;
-    }
-    true
-}
-
-// Whether no two blocks name the same pair, in at most E / 6,144 + N / 32,768 + 1 passes over the blocks.
-pub fn alone_all(g: Geometry, image: &[u8]) -> bool
-    requires { Tabled g image.now }
-    ensures { result ≡ all_below (taken g (front g image.now)) (alone g (front g image.now)) }
-{
-    let mut starts = [0u16; REGIONS_AT_ONCE];
-    let mut seen = [0u8; MARK_BYTES];
-    all_apart(g, image, &mut starts, &mut seen)
 }

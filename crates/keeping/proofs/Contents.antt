@@ -12,7 +12,7 @@ use lib.ListN.{get_or, length}
 use lib.Seq.{ext_get_or}
 use Rattle.laws.proofs.Folds.{all_none, steps_none}
 use Rattle.paper.specs.declared.Geometry.{Geometry}
-use Rattle.paper.specs.declared.Answer.TheVariants.{Done}
+use Rattle.paper.specs.Answers.{Done}
 use Rattle.paper.specs.Geometry.{block_bytes, Allowed, index_bytes}
 use Rattle.paper.specs.Image.{front, pages_of, edition_of, need_of}
 use Rattle.paper.specs.Index.{block_in}

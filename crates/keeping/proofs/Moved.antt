@@ -13,7 +13,7 @@ use lib.Seq.{get_or-take, get_or-drop, ext_get_or, length-take-le}
 use Rattle.laws.proofs.Lists.{length-splice, splice_before, splice_in}
 use Rattle.paper.specs.declared.Geometry.{Geometry}
 use Rattle.paper.specs.declared.Version.TheVariants.{Two}
-use Rattle.paper.specs.declared.Answer.TheVariants.{Done}
+use Rattle.paper.specs.Answers.{Done}
 use Rattle.paper.specs.Geometry.{anonymous, block_bytes, Allowed, capacity, need, front_bytes, data_at}
 use Rattle.paper.specs.Image.{front, data_of, blanked, taken, pages_of, block_of}
 use Rattle.paper.specs.Index.{index_of}

@@ -1,49 +1,35 @@
 // The reserve of a new image, empty or of one book; and the call that lays an empty one.
 #![tactic(auto)]
 
-ghost use Rattle.std.specs.Prelude.{◌≡◌, [], ◌+◌, ◌^◌, ◌≤◌, ◌<◌, length};
+ghost use Rattle.std.specs.Prelude.{◌≡◌, [], ◌≤◌, length};
 ghost use Rattle.laws.specs.Folds.{join_below};
-ghost use Rattle.laws.specs.Bytes.{splice, put};
+ghost use Rattle.laws.specs.Bytes.{splice};
 ghost use Rattle.paper.specs.Geometry.{header_bytes, fixed_regions, Allowed, no_region, need, size_at};
 ghost use Rattle.paper.specs.Image.{not_open, front, blanked, coded, size_width, set_pages, written_header, entry_row, size_row};
 ghost use Rattle.paper.specs.Index.{empty_index};
 ghost use Rattle.paper.specs.Calls.{lay, version_number, laid_size};
 ghost use Rattle.paper.specs.Move.{moved_owner, moved_place, moved_size, moved_front};
 ghost use Rattle.paper.specs.Refusals.{blank, refusal};
+ghost use Rattle.paper.specs.Answers.{no_in, answered, plain};
 ghost use Rattle.paper.specs.Outcomes.{lent, gives, outcome};
 ghost use Rattle.rules.specs.Facts.{Readable, Indexed, fronted};
 
-use paper::{Answer, Block, Geometry, Pages, Position, Region, Version};
+use numbers::Number;
+use paper::{Block, Geometry, Pages, Position, Refusal, Region, Version};
 
-// ---- header and tables
-
-fn version_number(version: Version) -> u32
-    ensures { result ≡ version_number version }
-{
-    match version {
-        Version::Two => paper::VERSION_2,
-        Version::Three => paper::VERSION_3,
-    }
-}
+// ---- header and tables. What is written is lent by itself (image says why)
 
 // C is the first region that can be opened.
+#[tactic(auto, using(rules::proofs::Written::header_put))]
 fn write_header(image: &mut [u8], version: Version, taken: u16)
     requires { header_bytes ≤ length image.old }
     ensures { image.new ≡ splice 0 (written_header (version_number version) taken fixed_regions) image.old }
 {
-    numbers::write_u32(image, paper::MARKER_AT, 0);
-    numbers::write_u32(image, paper::VERSION_AT, version_number(version));
-    numbers::write_u16(image, paper::TAKEN_AT, taken);
-    numbers::write_u16(image, paper::COUNTER_AT, paper::FIXED_REGIONS as u16);
-    numbers::write_u32(image, paper::BLANK_AT, 0);
-}
-
-fn write_entry(image: &mut [u8], at: usize, r: Region, p: Position)
-    requires { (at + 4 ≤ length image.old) × (r.0 < 2 ^ 16) × (p.0 < 2 ^ 16) }
-    ensures { image.new ≡ put 2 (at + 2) p.0 (put 2 at r.0 image.old) }
-{
-    numbers::write_u16(image, at, r.0 as u16);
-    numbers::write_u16(image, at + 2, p.0 as u16);
+    0u32.write(image, paper::MARKER_AT);
+    u32::from(version).write(image, paper::VERSION_AT);
+    taken.write(image, paper::TAKEN_AT);
+    (paper::FIXED_REGIONS as u16).write(image, paper::COUNTER_AT);
+    0u32.write(image, paper::BLANK_AT);
 }
 
 // Of the blocks taken, all the old anonymous book's, the last stands first. A block that is not taken holds region E-1, position 0.
@@ -73,16 +59,14 @@ fn write_blocks(g: Geometry, image: &mut [u8], taken: u16)
 {
     for i in 0..g.blocks {
         let b = Block(i as u16);
-        write_entry(
-            image,
-            g.entry_at(b),
-            new_owner(g, taken, b),
-            new_place(taken, b),
-        );
+        let owner = new_owner(g, taken, b);
+        let place = new_place(taken, b);
+        image::set_entry(g, image, b, owner, place);
     }
 }
 
 // What stands in the entry of a region that is not open: all ones in the bytes that the version has for the pages, and edition 0.
+#[tactic(auto, using(rules::proofs::Cells::coded_not_open), unfolding(paper::specs::Image::size_width))]
 fn not_open(version: Version) -> u64
     ensures { result ≡ coded (size_width (version_number version)) not_open }
 {
@@ -93,6 +77,7 @@ fn not_open(version: Version) -> u64
 }
 
 // Regions 0 to 15 are open and empty, and no other is open.
+#[tactic(auto, using(rules::proofs::Cells::coded_pages), unfolding(paper::specs::Calls::laid_size))]
 fn laid_size(version: Version, r: Region) -> u64
     ensures { result ≡ coded (size_width (version_number version)) (laid_size r.0) }
 {
@@ -103,10 +88,11 @@ fn laid_size(version: Version, r: Region) -> u64
 }
 
 // The old anonymous book has so many pages.
+#[tactic(auto, using(rules::proofs::Cells::coded_pages), unfolding(paper::specs::Move::moved_size))]
 fn new_size(version: Version, r: Region, pages: Pages) -> u64
     ensures { result ≡ coded (size_width (version_number version)) (moved_size pages.0 r.0) }
 {
-    if r.0 == paper::ANONYMOUS.0 {
+    if r == paper::ANONYMOUS {
         return pages.0;
     }
     laid_size(version, r)
@@ -118,7 +104,7 @@ fn write_regions(g: Geometry, version: Version, image: &mut [u8], pages: Pages)
 {
     for r in 0..g.entries {
         let region = Region(r as u32);
-        numbers::write_u64(image, g.size_at(region), new_size(version, region, pages));
+        new_size(version, region, pages).write(image, g.size_at(region));
     }
 }
 
@@ -136,6 +122,7 @@ fn write_tables(g: Geometry, version: Version, image: &mut [u8], pages: Pages)
 // ---- the rest of the reserve
 
 // Zeros between the tables and the end of the reserve.
+#[tactic(auto, using(rules::proofs::Parts::zeros_written))]
 fn blank_unused(g: Geometry, image: &mut [u8])
     requires { Readable g image.old }
     ensures { image.new ≡ blanked g image.old }
@@ -179,37 +166,26 @@ fn blank(g: Geometry, image: &[u8]) -> bool
     requires { header_bytes ≤ length image.now }
     ensures { result ≡ blank g image.now }
 {
-    for i in 0..paper::HEADER_BYTES {
-        if image[i] != 0 {
-            return false;
-        }
-    }
-    true
+    numbers::all_zero(&image[..paper::HEADER_BYTES])
 }
 
-fn lay_refusal(g: Geometry, version: Version, image: &[u8], index: &[u8]) -> u8
-    ensures { result ≡ refusal g image.now index.now (lay version) }
+fn layable(g: Geometry, version: Version, image: &[u8], index: &[u8]) -> Result<(), Refusal>
+    ensures { no_in result ≡ refusal g image.now index.now (lay version) }
 {
-    let no = desk::lent(g, image, index);
-    if no != 0 {
-        return no;
-    }
+    desk::lent(g, image, index)?;
     if !blank(g, image) {
-        return desk::NOT_BLANK;
+        return Err(Refusal::NotBlank);
     }
-    0
+    Ok(())
 }
 
 // ---- Lay: header and both tables, zeros in the rest of the reserve, and the empty index. Data blocks keep their bytes
 
-pub fn lay(g: Geometry, version: Version, image: &mut [u8], index: &mut [u8]) -> Answer
-    ensures { gives result [] (lent image.new index.new) ≡ outcome g (lay version) (lent image.old index.old) }
+pub fn lay(g: Geometry, version: Version, image: &mut [u8], index: &mut [u8]) -> Result<(), Refusal>
+    ensures { gives (answered plain result) [] (lent image.new index.new) ≡ outcome g (lay version) (lent image.old index.old) }
 {
-    let no = lay_refusal(g, version, image, index);
-    if no != 0 {
-        return Answer::Refused(no);
-    }
+    layable(g, version, image, index)?;
     write_reserve(g, version, image, Pages(0));
     write_empty_index(g, index);
-    Answer::Done(0)
+    Ok(())
 }

@@ -5,7 +5,7 @@ ghost use Rattle.std.specs.Prelude.{◌≡◌};
 ghost use Rattle.leaves.specs.Copy.{answered, left};
 ghost use Rattle.leaves.specs.Look.{looked};
 
-// Answers 1 and changes nothing where the lengths differ; otherwise copies, and answers 0.
+// Answers 1 and changes nothing where the lengths differ; otherwise copies, and answers 0: C has no Result.
 #[tactic(auto, unfolding(crate::specs::Copy::answered, crate::specs::Copy::left))]
 #[unsafe(no_mangle)]
 pub extern "C" fn leaf_copy(from: &[u8], to: &mut [u8]) -> u32
@@ -24,8 +24,5 @@ pub extern "C" fn leaf_copy(from: &[u8], to: &mut [u8]) -> u32
 pub extern "C" fn leaf_all_zero(bytes: &[u8]) -> u32
     ensures { result ≡ looked bytes.now }
 {
-    if !numbers::all_zero(bytes) {
-        return 0;
-    }
-    1
+    numbers::all_zero(bytes) as u32
 }

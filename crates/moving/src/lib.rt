@@ -4,24 +4,23 @@
 ghost use Rattle.std.specs.Prelude.{◌≡◌, [], ◌≤◌, length};
 ghost use Rattle.paper.specs.Geometry.{need, capacity};
 ghost use Rattle.paper.specs.Move.{moved_data, move_refusal, move_outcome};
+ghost use Rattle.paper.specs.Answers.{no_in, answered, plain};
 ghost use Rattle.paper.specs.Outcomes.{lent, gives};
 ghost use Rattle.rules.specs.Facts.{Readable};
 
-use paper::{Answer, Block, Geometry, Pages, Version};
+use image::Image;
+use paper::{Block, Geometry, Pages, Refusal, Version};
 
 // 1, 2, 3, 13.
-fn move_refusal(g: Geometry, image: &[u8], index: &[u8], pages: Pages) -> u8
-    ensures { result ≡ move_refusal g pages.0 image.now index.now }
+fn movable(g: Geometry, image: &[u8], index: &[u8], pages: Pages) -> Result<(), Refusal>
+    ensures { no_in result ≡ move_refusal g pages.0 image.now index.now }
 {
-    let no = desk::lent(g, image, index);
-    if no != 0 {
-        return no;
-    }
+    desk::lent(g, image, index)?;
     let room = g.capacity(image.len()) as u64;
     if room < g.need(pages) {
-        return desk::TOO_FEW_BLOCKS;
+        return Err(Refusal::TooFewBlocks);
     }
-    0
+    Ok(())
 }
 
 // The whole first block, to the end: past the last block of the old memory.
@@ -38,15 +37,17 @@ fn move_block(g: Geometry, image: &mut [u8], pages: Pages)
 }
 
 // The first block is copied before its place becomes the reserve: cut short in between, the old memory is still whole.
-pub fn move_over(g: Geometry, image: &mut [u8], index: &mut [u8], pages: Pages) -> Answer
-    ensures { gives result [] (lent image.new index.new) ≡ move_outcome g pages.0 (lent image.old index.old) }
+pub fn move_over(
+    g: Geometry,
+    image: &mut [u8],
+    index: &mut [u8],
+    pages: Pages,
+) -> Result<(), Refusal>
+    ensures { gives (answered plain result) [] (lent image.new index.new) ≡ move_outcome g pages.0 (lent image.old index.old) }
 {
-    let no = move_refusal(g, image, index, pages);
-    if no != 0 {
-        return Answer::Refused(no);
-    }
+    movable(g, image, index, pages)?;
     move_block(g, image, pages);
     laying::write_reserve(g, Version::Two, image, pages);
-    index::write_index(g, image, index);
-    Answer::Done(0)
+    index::write_index(&Image { g, bytes: image }, index);
+    Ok(())
 }

@@ -2,7 +2,7 @@
 use Rattle.std.specs.Prelude.{ℕ, ◌+◌, ◌-◌, ◌/◌, ◌||◌, cond, List, [], ◌∷◌, ◌++◌, eqb, ltb, take, length}
 use Rattle.laws.specs.Bytes.{splice}
 use Rattle.paper.specs.declared.Geometry.{Geometry}
-use Rattle.paper.specs.declared.Answer.TheVariants.{Done, Refused}
+use Rattle.paper.specs.Answers.{Done, Refused}
 use Rattle.paper.specs.declared.Version.{Version}
 use Rattle.paper.specs.declared.Version.TheVariants.{Two}
 use Rattle.paper.specs.Geometry.{fixed_regions, anonymous, block_bytes, no_region, need, data_at}

@@ -3,8 +3,7 @@
 use Rattle.std.specs.Prelude.{ℕ, cond, List, [], ◌∷◌, eqb, ltb, ℤ, get_or, length, replicate}
 use Rattle.laws.specs.Bytes.{num}
 use Rattle.laws.specs.Folds.{sum_below}
-use Rattle.paper.specs.declared.Answer.{Answer}
-use Rattle.paper.specs.declared.Answer.TheVariants.{Done, Opened, Refused}
+use Rattle.paper.specs.Answers.{Answer, Done, Opened, Refused}
 use Rattle.paper.specs.declared.Version.TheVariants.{Two}
 use Rattle.paper.specs.Geometry.{bench}
 use Rattle.paper.specs.Calls.{Call, lay, «open», grow, load, store, look, size, release, recover}

@@ -16,7 +16,7 @@ use Rattle.laws.proofs.Folds.{all_ext}
 use Rattle.laws.proofs.Lists.{same_refl, same_eq}
 use Rattle.laws.specs.Bytes.{same}
 use Rattle.paper.specs.declared.Geometry.{Geometry}
-use Rattle.paper.specs.declared.Answer.TheVariants.{Done, Refused}
+use Rattle.paper.specs.Answers.{Done, Refused}
 use Rattle.paper.specs.declared.Version.{Version}
 use Rattle.paper.specs.declared.Version.TheVariants.{Two}
 use Rattle.paper.specs.Geometry.{header_bytes, fixed_regions, reclaimed, block_bytes, allowed, Allowed, no_region, need, capacity, most_book_pages, front_bytes, index_bytes}

@@ -9,7 +9,7 @@ use native.Mathlib.Decide.{ℕ_discrete}
 use lib.ListN.{length}
 use Rattle.laws.proofs.Folds.{sum_none, sum_more}
 use Rattle.paper.specs.declared.Geometry.{Geometry}
-use Rattle.paper.specs.declared.Answer.TheVariants.{Done}
+use Rattle.paper.specs.Answers.{Done}
 use Rattle.paper.specs.Geometry.{Allowed, index_bytes}
 use Rattle.paper.specs.Image.{front, blanked, taken, owner, place, need_of}
 use Rattle.paper.specs.Index.{index_of}

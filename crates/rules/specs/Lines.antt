@@ -1,7 +1,7 @@
 -- The beginnings that lines of "Order of checks" share, each as the number that it answers: that of its first check that refuses, or 0.
 use Rattle.std.specs.Prelude.{ℕ, List, [], ◌∷◌}
 use Rattle.paper.specs.declared.Geometry.{Geometry}
-use Rattle.paper.specs.Refusals.{first, no1, no2, no3, no4, no5, to4, to5, to7, of_book, reading}
+use Rattle.paper.specs.Refusals.{first, no1, no2, no3, no4, no5, to4, to5, to7, naming, of_book, reading}
 
 -- ---- without an index, as size asks
 module _ (g : Geometry) (image : List ℕ) where
@@ -13,7 +13,11 @@ module _ (g : Geometry) (image : List ℕ) where
   unfoldable pub whole_no : ℕ
   whole_no = first (no1 g image [] ∷ no3 g image [] ∷ no4 g image [] ∷ no5 g image [] ∷ [])
 
-  -- 8, 18 and 6, of one book
+  -- 8 and 18, of one book
+  unfoldable pub name_no : ℕ → ℕ → ℕ
+  name_no r e = first (naming g image [] r e [])
+
+  -- and 6
   unfoldable pub book_no : ℕ → ℕ → ℕ
   book_no r e = first (of_book g image [] r e [])
 

@@ -1,1 +1,3 @@
+pub mod Start
+pub mod Sums
 pub mod Told

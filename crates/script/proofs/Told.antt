@@ -1,33 +1,39 @@
 -- What a record tells, from the promise of the call that it makes.
 use Prim.Native.Nat.{ℕ, ◌-◌, ◌≤◌, ◌<◌}
-use mathlib.Core.Logic.{◌≢◌}
-use mathlib.Core.Path.{◌≡◌, sym, ◌∙◌, ap}
+use mathlib.Core.Path.{◌≡◌, refl, ◌∙◌, ap}
 use mathlib.Core.List.{List, []}
+use native.Mathlib.Omega.{arith}
 use borrow.Author.Tests.{lt-ltb, le-ltb, ne_eqb}
 use native.Mathlib.Nat.{sub-zero}
 use lib.ListN.{length, get_or, take, drop, replicate}
 use Rattle.std.proofs.Common.{length-take-le}
 use Rattle.laws.proofs.Bytes.{num_one}
-use Rattle.paper.specs.declared.Answer.{Answer}
-use Rattle.paper.specs.declared.Answer.TheVariants.{Done}
+use Rattle.std.specs.Prelude.{Result, Ok, Err}
+use Rattle.paper.specs.declared.Refusal.{Refusal}
+use Rattle.paper.specs.Answers.{Answer, Done, Refused, no_of, answered, plain}
 use Rattle.paper.specs.Geometry.{bench}
 use Rattle.paper.specs.Calls.{Call, load, store, size}
 use Rattle.paper.specs.Outcomes.{State, lent, gives, outcome}
 use Rattle.rules.proofs.Outcomes.{size_any_index}
-use Rattle.paper.specs.Script.{record_bytes, operation_in, length_in, operations, Told, tells, sum_of, summed, answer_of, called, most_length, odd, short, among, told}
+use Rattle.paper.specs.Script.{record_bytes, operation_in, region_in, length_in, number_in, operations, tells, sum_of, answer_of, called, most_length, odd, short, among, told}
+use Rattle.script.specs.declared.Operation.{Operation}
+use Rattle.script.specs.declared.Operation.TheVariants.{Open, Grow, Store, Load, Release, Size, Recover}
+use Rattle.script.specs.declared.Record.{Record}
+use Rattle.script.specs.Operations.{operation_no}
+use Rattle.script.specs.Asked.{makes, call_of}
 
 -- the call kept its promise
 pub call_kept : (c : Call) (a : Answer) (bytes : List ℕ) (s t : State) → gives a bytes s ≡ outcome bench c t → tells (answer_of c (gives a bytes s)) s ≡ called c t
 unfolding called
 call_kept c a bytes s t e = ap (λ o. tells (answer_of c o) o.state) e
 
--- a load that answers anything but "done", and one that is done and has n for the sum of its bytes
-module _ (r d o : ℕ) (buffer bytes : List ℕ) (a : Answer) (s : State) (kept : gives a bytes s ≡ outcome bench (load r d o buffer) s) where
-  pub load_other : summed bytes a ≡ a → tells a s ≡ called (load r d o buffer) s
-  load_other e = ap (λ x. tells x s) (sym e) ∙ call_kept (load r d o buffer) a bytes s s kept
+-- a load that is refused, and one that is done and has n for the sum of its bytes
+module _ (r d o : ℕ) (buffer bytes : List ℕ) (q : Result (Unit {0}) Refusal) (s : State) (kept : gives (answered plain q) bytes s ≡ outcome bench (load r d o buffer) s) where
+  pub load_refused : (k : Refusal) → q ≡ Err k → tells (Refused (no_of k)) s ≡ called (load r d o buffer) s
+  load_refused k e = call_kept (load r d o buffer) (Refused (no_of k)) bytes s s (rw e at kept)
 
-  pub load_done : (v n : ℕ) → a ≡ Done v → n ≡ sum_of bytes → tells (Done n) s ≡ called (load r d o buffer) s
-  load_done v n e f = ap (λ x. tells x s) (ap Done f ∙ ap (summed bytes) (sym e)) ∙ call_kept (load r d o buffer) a bytes s s kept
+  pub load_done : (n : ℕ) → q ≡ Ok tt → n ≡ sum_of bytes → tells (Done n) s ≡ called (load r d o buffer) s
+  load_done n e f = rw f (call_kept (load r d o buffer) (Done 0) bytes s s (rw e at kept))
 
 -- so many bytes of a buffer that has them are so many
 pub part_length : (n : ℕ) (xs : List ℕ) → n ≤ length xs → length (take (n - 0) (drop 0 xs)) ≡ n
@@ -57,11 +63,33 @@ module _ (r : List ℕ) (s : State) where
   unfolding told
   told_whole h l = rw (le-ltb (length r) record_bytes h, le-ltb most_length (length_in r) l)
 
-  -- its first byte is the operation's number
-  pub operation_is : (k : ℕ) (t : Told) → get_or r 0 0 ≡ k → t ≡ among (operations r) k s → t ≡ among (operations r) (operation_in r) s
-  operation_is k t e f = f ∙ ap (λ (n : ℕ). among (operations r) n s) (sym (num_one r 0 ∙ e))
-
-  pub none_known : (k : ℕ) → k ≢ 1 → k ≢ 2 → k ≢ 3 → k ≢ 4 → k ≢ 5 → k ≢ 6 → k ≢ 7 → among (operations r) k s ≡ odd s
+  pub none_known : (k : ℕ) → (1 ≤ k → 7 < k) → among (operations r) k s ≡ odd s
   unfolding among
-  none_known k n1 n2 n3 n4 n5 n6 n7 =
-      rw (ne_eqb k 1 n1, ne_eqb k 2 n2, ne_eqb k 3 n3, ne_eqb k 4 n4, ne_eqb k 5 n5, ne_eqb k 6 n6, ne_eqb k 7 n7)
+  none_known k n =
+      rw (ne_eqb k 1 (λ e. omega (arith, n)), ne_eqb k 2 (λ e. omega (arith, n)), ne_eqb k 3 (λ e. omega (arith, n)), ne_eqb k 4 (λ e. omega (arith, n)), ne_eqb k 5 (λ e. omega (arith, n)), ne_eqb k 6 (λ e. omega (arith, n)), ne_eqb k 7 (λ e. omega (arith, n)))
+
+  -- its first byte is the operation's number
+  pub told_odd : record_bytes ≤ length r → length_in r ≤ most_length → (1 ≤ get_or r 0 0 → 7 < get_or r 0 0) → told r s ≡ odd s
+  told_odd h l n = told_whole h l ∙ rw (num_one r 0) (none_known (get_or r 0 0) n)
+
+  -- the fields that a record is read from
+  pub record Fields (x : Record) : Type 0 where
+    pub operation : operation_no x.operation ≡ get_or r 0 0
+    pub fill : x.fill ≡ get_or r 1 0
+    pub region : x.book.region.0 ≡ region_in r
+    pub edition : x.book.edition.0 ≡ 0
+    pub length : x.length ≡ length_in r
+    pub number : x.number ≡ number_in r
+
+  pub told_call : (x : Record) → record_bytes ≤ length r → Fields x → told r s ≡ called (call_of x) s
+  unfolding among
+  told_call x h f = told_whole h (omega arith) ∙ rw (num_one r 0, ← f.operation) (go x.operation)
+    where
+      go : (o : Operation) → among (operations r) (operation_no o) s ≡ called (makes o x) s
+      go Open = refl
+      go Grow = rw (f.region, f.edition, f.number)
+      go Store = rw (f.region, f.edition, f.number, f.length, f.fill, num_one r 1)
+      go Load = rw (f.region, f.edition, f.number, f.length)
+      go Release = rw (f.region, f.edition)
+      go Size = rw (f.region, f.edition)
+      go Recover = refl

@@ -2,13 +2,16 @@
 #![tactic(auto)]
 
 ghost use Rattle.std.specs.Prelude.{◌≡◌, ◌≤◌, length, replicate, IfOk};
-ghost use Rattle.paper.specs.Calls.{load, store};
 ghost use Rattle.paper.specs.Outcomes.{lent};
-ghost use Rattle.paper.specs.Script.{script_start, record_bytes, operation_in, length_in, operations, line_of, tells, sum_of, called, most_length, among, told};
+ghost use Rattle.paper.specs.Script.{script_start, line_of, tells, sum_of, most_length, told};
+ghost use Rattle.script.specs.Said.{fault_no, said, printed};
+ghost use Rattle.script.specs.Operations.{Operates};
+ghost use Rattle.script.specs.declared.Fault.TheVariants.{Refused};
 
-use paper::{Answer, Edition, Geometry, Offset, Pages, Region, Version};
-use std::io;
+use numbers::Number;
+use paper::{Book, Edition, Geometry, Offset, Pages, Refusal, Region, Version};
 use std::io::{Read, Stdin};
+use std::{fmt, io};
 
 const G: Geometry = Geometry::BENCH;
 
@@ -35,171 +38,233 @@ const NUMBER_AT: usize = 8;
 
 const MOST_LENGTH: usize = 4096;
 
-// The operations.
-const OPEN: u8 = 1;
+// ---- what goes wrong
 
-const GROW: u8 = 2;
-
-const STORE: u8 = 3;
-
-const LOAD: u8 = 4;
-
-const RELEASE: u8 = 5;
-
-const SIZE: u8 = 6;
-
-const RECOVER: u8 = 7;
-
-// The refusal of a record that names no operation, or too great a length; and of a last short record.
-const ODD: u8 = 99;
-
-const SHORT: u8 = 98;
-
-fn print_line(rt: &HostRuntime, refusal: u64, value: u64) -> io::Result<()> {
-    println!(rt; "{refusal} {value}")
+#[derive(Clone, Copy)]
+enum Fault {
+    // The call was refused.
+    Refused(Refusal),
+    // The record names no operation, or too great a length.
+    Odd,
+    // It is a last short record.
+    Short,
 }
 
-fn print_refusal(rt: &HostRuntime, a: Answer) -> io::Result<()> {
-    let Answer::Refused(k) = a else {
-        return Ok(());
-    };
-    print_line(rt, k as u64, 0)
+impl From<Refusal> for Fault {
+    ghost from_gives = { λ k f. f ≡ Refused k };
+
+    fn from(refusal: Refusal) -> Fault {
+        Fault::Refused(refusal)
+    }
+}
+
+impl From<Fault> for u8 {
+    ghost from_gives = { λ f n. n ≡ fault_no f };
+
+    fn from(fault: Fault) -> u8 {
+        match fault {
+            Fault::Refused(refusal) => u8::from(refusal),
+            Fault::Odd => 99,
+            Fault::Short => 98,
+        }
+    }
+}
+
+// ---- a record
+
+// What it asks for, in the order of the numbers 1 to 7.
+#[derive(Clone, Copy)]
+enum Operation {
+    Open,
+    Grow,
+    Store,
+    Load,
+    Release,
+    Size,
+    Recover,
+}
+
+impl TryFrom<u8> for Operation {
+    type Error = Fault;
+
+    ghost try_from_gives = { Operates };
+
+    fn try_from(number: u8) -> Result<Operation, Fault> {
+        match number {
+            1 => Ok(Operation::Open),
+            2 => Ok(Operation::Grow),
+            3 => Ok(Operation::Store),
+            4 => Ok(Operation::Load),
+            5 => Ok(Operation::Release),
+            6 => Ok(Operation::Size),
+            7 => Ok(Operation::Recover),
+            _ => Err(Fault::Odd),
+        }
+    }
 }
 
 fn sum(bytes: &[u8]) -> u64
     requires { length bytes.now ≤ most_length }
     ensures { result ≡ sum_of bytes.now }
 {
-    let mut total: u64 = 0;
-    for i in 0..bytes.len() {
-        total += bytes[i] as u64;
-    }
-    total
+    bytes.iter().map(|b| u64::from(*b)).sum()
 }
 
-// A store of the fill byte, by way of bytes that are lent for it.
-fn store(
-    image: &mut [u8],
-    index: &[u8],
-    region: Region,
-    offset: Offset,
-    b: u8,
-    bytes: &mut [u8],
-) -> Answer
-    ensures { tells result (lent image.new index.now) ≡ called (store region.0 0 offset.0 (replicate (length bytes.old) b)) (lent image.old index.now) }
-{
-    numbers::fill(bytes, b);
-    contents::store(G, image, index, region, EDITION, offset, bytes)
+// The fields of a record. The number is pages or an offset.
+#[derive(Clone, Copy)]
+struct Record {
+    operation: Operation,
+    fill: u8,
+    book: Book,
+    length: usize,
+    number: u64,
+    ghost length_fits: { length ≤ most_length },
 }
 
-// A load answers the sum of its bytes.
-fn load(image: &[u8], index: &[u8], region: Region, offset: Offset, bytes: &mut [u8]) -> Answer
-    requires { length bytes.old ≤ most_length }
-    ensures { tells result (lent image.now index.now) ≡ called (load region.0 0 offset.0 bytes.old) (lent image.now index.now) }
-{
-    let a = contents::load(G, image, index, region, EDITION, offset, bytes);
-    match a {
-        Answer::Done(_) => Answer::Done(sum(bytes)),
-        Answer::Opened {
-            region: _,
-            edition: _,
-        } => a,
-        Answer::Refused(_) => a,
-    }
-}
+impl Record {
+    ghost use Rattle.paper.specs.Answers.{answered, plain, Done};
+    ghost use Rattle.paper.specs.Script.{called};
+    ghost use Rattle.script.specs.Asked.{makes, call_of, Asks};
+    ghost use Rattle.script.specs.declared.Operation.TheVariants.{Store, Load};
 
-// The operation of a record that is whole and not too long.
-fn operate(image: &mut [u8], index: &mut [u8], step: &[u8]) -> Answer
-    requires { (record_bytes ≤ length step.now) × (length_in step.now ≤ most_length) }
-    ensures { tells result (lent image.new index.new) ≡ among (operations step.now) (operation_in step.now) (lent image.old index.old) }
-{
-    let mut buffer = [0u8; MOST_LENGTH];
-    let region = Region(numbers::read_u16(step, REGION_AT) as u32);
-    let number = numbers::read_u64(step, NUMBER_AT);
-    let n = numbers::read_u32(step, LENGTH_AT) as usize;
-    let operation = step[OPERATION_AT];
-    if operation == OPEN {
-        return books::open(G, image, index);
+    fn parse(bytes: &[u8]) -> Result<Record, Fault>
+        ensures { Asks bytes.now result }
+    {
+        if bytes.len() < RECORD {
+            return Err(Fault::Short);
+        }
+        let length = u32::read(bytes, LENGTH_AT) as usize;
+        if length > MOST_LENGTH {
+            return Err(Fault::Odd);
+        }
+        Ok(Record {
+            operation: Operation::try_from(bytes[OPERATION_AT])?,
+            fill: bytes[FILL_AT],
+            book: Book {
+                region: Region(u32::from(u16::read(bytes, REGION_AT))),
+                edition: EDITION,
+            },
+            length,
+            number: u64::read(bytes, NUMBER_AT),
+        })
     }
-    if operation == GROW {
-        return books::grow(G, image, index, region, EDITION, Pages(number));
+
+    // A store of the fill byte.
+    fn store(&self, image: &mut [u8], index: &[u8]) -> Result<(), Refusal>
+        ensures { tells (answered plain result) (lent image.new index.now) ≡ called (makes Store self.now) (lent image.old index.now) }
+    {
+        let bytes = [self.fill; MOST_LENGTH];
+        contents::store(
+            G,
+            image,
+            index,
+            self.book,
+            Offset(self.number),
+            &bytes[..self.length],
+        )
     }
-    if operation == STORE {
-        let b = step[FILL_AT];
-        return store(image, index, region, Offset(number), b, &mut buffer[0..n]);
+
+    // A load answers the sum of its bytes.
+    fn load(&self, image: &[u8], index: &[u8]) -> Result<u64, Refusal>
+        ensures { tells (answered Done result) (lent image.now index.now) ≡ called (makes Load self.now) (lent image.now index.now) }
+    {
+        let mut buffer = [0u8; MOST_LENGTH];
+        let bytes = &mut buffer[..self.length];
+        contents::load(G, image, index, self.book, Offset(self.number), bytes)?;
+        Ok(sum(bytes))
     }
-    if operation == LOAD {
-        return load(image, index, region, Offset(number), &mut buffer[0..n]);
+
+    // Makes the call, which answers its value.
+    fn call(&self, image: &mut [u8], index: &mut [u8]) -> Result<u64, Refusal>
+        ensures { tells (answered Done result) (lent image.new index.new) ≡ called (call_of self.now) (lent image.old index.old) }
+    {
+        match self.operation {
+            Operation::Open => books::open(G, image, index).map(|book| u64::from(book.region.0)),
+            Operation::Grow => {
+                books::grow(G, image, index, self.book, Pages(self.number)).map(|old| old.0)
+            }
+            Operation::Store => self.store(image, index).map(|()| 0),
+            Operation::Load => self.load(image, index),
+            Operation::Release => books::release(G, image, index, self.book).map(|()| 0),
+            Operation::Size => desk::size(G, image, self.book).map(|pages| pages.0),
+            Operation::Recover => recovery::recover(G, image, index).map(|()| 0),
+        }
     }
-    if operation == RELEASE {
-        return books::release(G, image, index, region, EDITION);
-    }
-    if operation == SIZE {
-        return desk::size(G, image, region, EDITION);
-    }
-    if operation == RECOVER {
-        return recovery::recover(G, image, index);
-    }
-    Answer::Refused(ODD)
 }
 
 // What a record tells, as far as it was read.
-fn perform(image: &mut [u8], index: &mut [u8], step: &[u8]) -> Answer
-    ensures { tells result (lent image.new index.new) ≡ told step.now (lent image.old index.old) }
+fn perform(image: &mut [u8], index: &mut [u8], bytes: &[u8]) -> Result<u64, Fault>
+    ensures { tells (said result) (lent image.new index.new) ≡ told bytes.now (lent image.old index.old) }
 {
-    if step.len() < RECORD {
-        return Answer::Refused(SHORT);
-    }
-    if MOST_LENGTH < numbers::read_u32(step, LENGTH_AT) as usize {
-        return Answer::Refused(ODD);
-    }
-    operate(image, index, step)
+    let record = Record::parse(bytes)?;
+    Ok(record.call(image, index)?)
 }
 
-// The answer with the same line: of an open it has the region alone.
-fn valued(a: Answer) -> Answer
-    ensures { line_of result ≡ line_of a }
-{
-    let Answer::Opened { region, edition: _ } = a else {
-        return a;
-    };
-    Answer::Done(region.0 as u64)
+// ---- a line
+
+// 0, or the refusal's number; and the value.
+#[derive(Clone, Copy)]
+struct Line {
+    refusal: u8,
+    value: u64,
 }
 
-// Reads until the record is full or the input ends, and tells how many bytes it got.
+impl From<Result<u64, Fault>> for Line {
+    ghost from_gives = { λ r l. printed l ≡ line_of (said r) };
+
+    fn from(told: Result<u64, Fault>) -> Line {
+        match told {
+            Ok(value) => Line { refusal: 0, value },
+            Err(fault) => Line {
+                refusal: u8::from(fault),
+                value: 0,
+            },
+        }
+    }
+}
+
+impl fmt::Display for Line {
+    fn fmt<W: fmt::Write>(&self, f: &mut fmt::Formatter<W>) -> fmt::Result {
+        write!(f, "{} {}", self.refusal, self.value)
+    }
+}
+
+// ---- the walk
+
+// Reads until the record is full or the input ends, and tells how many bytes it got. (The library's methods that read on fill a Vec, or do not
+// say how many bytes they got before the end.)
 fn read_record(input: &mut Stdin, bytes: &mut [u8]) -> io::Result<usize>
     ensures { IfOk result (λ n. n ≤ length bytes.new) }
 {
     let mut got = 0;
     while got < bytes.len() {
-        let n = input.read(&mut bytes[got..])?;
-        if n == 0 {
-            return Ok(got);
+        match input.read(&mut bytes[got..])? {
+            0 => break,
+            n => got += n,
         }
-        got += n;
     }
     Ok(got)
 }
 
-// Nothing says that the input ends, so the turns are counted down, from a number that no run uses up.
+// Nothing says that the input ends, so the turns have an end, which no run comes to.
 fn run(rt: &HostRuntime, image: &mut [u8], index: &mut [u8]) -> io::Result<()>
     requires { lent image.old index.old ≡ script_start }
 {
     let mut input = rt.stdin();
-    let mut turns = u64::MAX;
-    while turns > 0 {
-        turns -= 1;
-        let mut step = [0u8; RECORD];
-        let got = read_record(&mut input, &mut step)?;
+    for _ in 0..u64::MAX {
+        let mut bytes = [0u8; RECORD];
+        let got = read_record(&mut input, &mut bytes)?;
         if got == 0 {
-            return Ok(());
+            break;
         }
-        let a = valued(perform(image, index, &step[0..got]));
-        let Answer::Done(v) = a else {
-            print_refusal(rt, a)?;
+        let told = perform(image, index, &bytes[..got]);
+        let Ok(value) = told else {
+            let line = Line::from(told);
+            println!(rt; "{line}")?;
             continue;
         };
-        print_line(rt, 0, v)?;
+        let line = Line { refusal: 0, value };
+        println!(rt; "{line}")?;
     }
     Ok(())
 }
@@ -207,8 +272,7 @@ fn run(rt: &HostRuntime, image: &mut [u8], index: &mut [u8]) -> io::Result<()>
 fn main(rt: HostRuntime) -> io::Result<()> {
     let mut image = [0u8; IMAGE];
     let mut index = [0u8; INDEX];
-    let Answer::Done(_) = laying::lay(G, Version::Two, &mut image, &mut index) else {
-        return Ok(());
-    };
+    // A lay over zeros is not refused: that is proved, and nothing tests it here.
+    laying::lay(G, Version::Two, &mut image, &mut index).unwrap();
     run(&rt, &mut image, &mut index)
 }

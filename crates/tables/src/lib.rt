@@ -1,15 +1,18 @@
 // The tables changed block by block: a block given to a book, a book's blocks given back, a region opened.
 #![tactic(auto)]
 
-ghost use Rattle.std.specs.Prelude.{◌≡◌, ℕ, ◌+◌, ◌≤◌, ◌<◌};
+ghost use Rattle.std.specs.Prelude.{◌≡◌, ℕ, ◌+◌, ◌≤◌, ◌<◌, IfSome};
 ghost use Rattle.laws.specs.Folds.{steps};
 ghost use Rattle.paper.specs.Image.{front, taken, owner, place, need_of};
-ghost use Rattle.paper.specs.Geometry.{reclaimed};
+ghost use Rattle.paper.specs.Geometry.{reclaimed, no_region};
 ghost use Rattle.paper.specs.Calls.{openable, lowest_openable, next_region, opened, released, reclaiming, raised};
+ghost use Rattle.image.specs.Views.{front_of};
 ghost use Rattle.tables.specs.Grant.{stock_of, next_block, block_after, drawn, placed, Found, FoundAt, Grantable};
-ghost use Rattle.tables.specs.Steps.{Releasable};
-ghost use Rattle.rules.specs.Facts.{Readable, fronted, Indexed};
+ghost use Rattle.tables.specs.Steps.{Releasable, region_or};
+ghost use Rattle.rules.specs.Facts.{Readable, fronted};
 
+use image::Image;
+use index::Index;
 use paper::{Block, Geometry, Pages, Position, Region};
 
 // What a growth starts from: the blocks that the book holds, region 1's blocks, and N. While it is made the tables change and this does not.
@@ -20,41 +23,42 @@ pub struct Stock {
     pub taken: u16,
 }
 
-pub fn take_stock(g: Geometry, image: &[u8], region: Region) -> Stock
-    requires { Readable g image.now }
-    ensures { (result.held ≡ need_of g (front g image.now) region.0) × (result.spare ≡ need_of g (front g image.now) reclaimed) × (result.taken ≡ taken g (front g image.now)) }
+pub fn take_stock(image: &Image<'_>, region: Region) -> Stock
+    ensures { (result.held ≡ need_of image.now.g (front_of image.now) region.0) × (result.spare ≡ need_of image.now.g (front_of image.now) reclaimed) × (result.taken ≡ taken image.now.g (front_of image.now)) }
 {
     Stock {
-        held: image::need(g, image, region) as usize,
-        spare: image::need(g, image, paper::RECLAIMED) as usize,
-        taken: image::taken(g, image),
+        held: image.need(region) as usize,
+        spare: image.need(paper::RECLAIMED) as usize,
+        taken: image.taken(),
     }
 }
 
 // The block that the grant after j others takes: region 1's as the lent index has them, the highest position first; then from N up, and not
 // by the image's length.
-fn next_block(g: Geometry, index: &[u8], s: Stock, j: usize) -> Block
-    requires { Indexed g index.now × Found g index.now s j }
-    ensures { result.0 ≡ next_block g index.now s j }
+fn next_block(index: &Index<'_>, s: Stock, j: usize) -> Block
+    requires { Found index.now.g index.now.bytes.now s j }
+    ensures { result.0 ≡ next_block index.now.g index.now.bytes.now s j }
 {
     if s.spare <= j {
         return Block(s.taken + (j - s.spare) as u16);
     }
-    let start = index::start_in(g, index, paper::RECLAIMED) as usize;
-    index::slot_in(g, index, start + (s.spare - 1 - j))
+    let start = index.start(paper::RECLAIMED) as usize;
+    index.slot(start + (s.spare - 1 - j))
 }
 
 // The block at position p of the book when it has grown: one that it holds, or one that it will be granted.
-pub fn block_after(g: Geometry, index: &[u8], region: Region, s: Stock, p: Position) -> Block
-    requires { Indexed g index.now × FoundAt g index.now region.0 s p.0 }
-    ensures { result.0 ≡ block_after g index.now region.0 s p.0 }
+pub fn block_after(index: &Index<'_>, region: Region, s: Stock, p: Position) -> Block
+    requires { FoundAt index.now.g index.now.bytes.now region.0 s p.0 }
+    ensures { result.0 ≡ block_after index.now.g index.now.bytes.now region.0 s p.0 }
 {
     if s.held <= p.0 {
-        return next_block(g, index, s, p.0 - s.held);
+        return next_block(index, s, p.0 - s.held);
     }
-    let start = index::start_in(g, index, region) as usize;
-    index::slot_in(g, index, start + p.0)
+    let start = index.start(region) as usize;
+    index.slot(start + p.0)
 }
+
+// ---- what is written from here on is lent by itself (image says why)
 
 // Block b, which the grant after j others takes, leaves region 1 or is counted in N.
 fn draw(g: Geometry, image: &mut [u8], s: Stock, j: usize, b: Block)
@@ -71,36 +75,40 @@ fn draw(g: Geometry, image: &mut [u8], s: Stock, j: usize, b: Block)
 }
 
 // The grant after j others. The book's page count stays: until it is written the needs sum to less than N, and recovery refuses.
-fn grant(g: Geometry, image: &mut [u8], index: &[u8], region: Region, s: Stock, j: usize)
-    requires readable { Readable g image.old × Indexed g index.now }
-    requires grantable { Grantable g index.now region.0 s j }
-    ensures { image.new ≡ fronted g (placed g index.now region.0 s j (front g image.old)) image.old }
+fn grant(image: &mut [u8], index: &Index<'_>, region: Region, s: Stock, j: usize)
+    requires readable { Readable index.now.g image.old }
+    requires grantable { Grantable index.now.g index.now.bytes.now region.0 s j }
+    ensures { image.new ≡ fronted index.now.g (placed index.now.g index.now.bytes.now region.0 s j (front index.now.g image.old)) image.old }
 {
-    let b = next_block(g, index, s, j);
+    let g = index.g;
+    let b = next_block(index, s, j);
     draw(g, image, s, j, b);
     let place = Position(s.held + j);
     image::set_entry(g, image, b, region, place);
 }
 
 // So many blocks more for the region, whose page count stays.
-pub fn grant_blocks(g: Geometry, image: &mut [u8], index: &[u8], region: Region, count: usize)
-    requires readable { Readable g image.old × Indexed g index.now }
-    requires by_index { (j : ℕ) → j < count → Grantable g index.now region.0 (stock_of g (front g image.old) region.0) j }
-    ensures { image.new ≡ fronted g (steps count (placed g index.now region.0 (stock_of g (front g image.old) region.0)) (front g image.old)) image.old }
+pub fn grant_blocks(image: &mut [u8], index: &Index<'_>, region: Region, count: usize)
+    requires readable { Readable index.now.g image.old }
+    requires by_index { (j : ℕ) → j < count → Grantable index.now.g index.now.bytes.now region.0 (stock_of index.now.g (front index.now.g image.old) region.0) j }
+    ensures { image.new ≡ fronted index.now.g (steps count (placed index.now.g index.now.bytes.now region.0 (stock_of index.now.g (front index.now.g image.old) region.0)) (front index.now.g image.old)) image.old }
 {
-    let s = take_stock(g, image, region);
+    let before = Image {
+        g: index.g,
+        bytes: image,
+    };
+    let s = take_stock(&before, region);
     for j in 0..count {
-        grant(g, image, index, region, s, j);
+        grant(image, index, region, s, j);
     }
 }
 
 // Block b's position in region 1: after the `spare` blocks that are there, in position order and not in block order.
-fn spare_place(g: Geometry, image: &[u8], spare: u64, b: Block) -> Position
-    requires readable { Readable g image.now }
-    requires b_lt_blocks { (b.0 < g.blocks) × (spare + place g (front g image.now) b.0 < g.blocks) }
-    ensures { result.0 ≡ spare + place g (front g image.now) b.0 }
+fn spare_place(image: &Image<'_>, spare: u64, b: Block) -> Position
+    requires b_lt_blocks { (b.0 < image.now.g.blocks) × (spare + place image.now.g (front_of image.now) b.0 < image.now.g.blocks) }
+    ensures { result.0 ≡ spare + place image.now.g (front_of image.now) b.0 }
 {
-    Position(spare as usize + image::place(g, image, b).0)
+    Position(spare as usize + image.place(b).0)
 }
 
 // Block b to region 1, where it is the region's.
@@ -110,10 +118,11 @@ fn reclaim(g: Geometry, image: &mut [u8], region: Region, spare: u64, b: Block)
     requires b_bound { owner g (front g image.old) b.0 ≡ region.0 → spare + place g (front g image.old) b.0 < g.blocks }
     ensures { image.new ≡ fronted g (reclaiming g (front g image.old) region.0 spare b.0 (front g image.old)) image.old }
 {
-    if image::owner(g, image, b).0 != region.0 {
+    let now = Image { g, bytes: image };
+    if now.owner(b) != region {
         return;
     }
-    let p = spare_place(g, image, spare, b);
+    let p = spare_place(&now, spare, b);
     image::set_entry(g, image, b, paper::RECLAIMED, p);
 }
 
@@ -124,8 +133,8 @@ fn reclaim_blocks(g: Geometry, image: &mut [u8], region: Region, spare: u64)
     requires spare_value { spare ≡ need_of g (front g image.old) reclaimed }
     ensures { image.new ≡ fronted g (steps (taken g (front g image.old)) (reclaiming g (front g image.old) region.0 spare) (front g image.old)) image.old }
 {
-    let n = image::taken(g, image);
-    for b in 0..n {
+    let before = Image { g, bytes: image };
+    for b in 0..before.taken() {
         reclaim(g, image, region, spare, Block(b));
     }
 }
@@ -136,8 +145,9 @@ pub fn release_tables(g: Geometry, image: &mut [u8], region: Region)
     requires releasable { Releasable g (front g image.old) region.0 }
     ensures { image.new ≡ fronted g (released g region.0 (front g image.old)) image.old }
 {
-    let spare = image::need(g, image, paper::RECLAIMED);
-    let more = image::need(g, image, region);
+    let before = Image { g, bytes: image };
+    let spare = before.need(paper::RECLAIMED);
+    let more = before.need(region);
     let n = (spare + more) * g.pages as u64;
     reclaim_blocks(g, image, region, spare);
     image::set_pages(g, image, paper::RECLAIMED, Pages(n));
@@ -145,43 +155,33 @@ pub fn release_tables(g: Geometry, image: &mut [u8], region: Region)
 }
 
 // Not open, and never to be opened again once its last edition has come.
-fn is_openable(g: Geometry, image: &[u8], r: Region) -> bool
-    requires readable { Readable g image.now }
-    requires r_lt_entries { r.0 < g.entries }
-    ensures { result ≡ openable g (front g image.now) r.0 }
+fn is_openable(image: &Image<'_>, r: Region) -> bool
+    requires r_lt_entries { r.0 < image.now.g.entries }
+    ensures { result ≡ openable image.now.g (front_of image.now) r.0 }
 {
-    if image::is_open(g, image, r) {
-        return false;
-    }
-    image::edition(g, image, r).0 < paper::LAST_EDITION.0
+    !image.is_open(r) && image.edition(r) < paper::LAST_EDITION
 }
 
-// The lowest region from 16 to E-2 that can be opened, or E-1 where there is none.
-fn lowest_openable(g: Geometry, image: &[u8]) -> Region
-    requires { Readable g image.now }
-    ensures { result.0 ≡ lowest_openable g (front g image.now) }
+// The lowest region from 16 to E-2 that can be opened. The paper says E-1 where there is none.
+fn lowest_openable(image: &Image<'_>) -> Option<Region>
+    ensures number { region_or (no_region image.now.g) result ≡ lowest_openable image.now.g (front_of image.now) }
+    ensures below { IfSome result (λ r. r.0 < no_region image.now.g) }
 {
-    let end = g.no_region().0;
-    let mut r = paper::FIXED_REGIONS;
-    while r < end {
-        if is_openable(g, image, Region(r)) {
-            return Region(r);
-        }
-        r += 1;
-    }
-    Region(r)
+    let end = image.g.no_region().0;
+    let lowest = (paper::FIXED_REGIONS..end).find(|r| is_openable(image, Region(*r)));
+    lowest.map(Region)
 }
 
-// The region that an open gives, or E-1.
-pub fn next_region(g: Geometry, image: &[u8]) -> Region
-    requires { Readable g image.now }
-    ensures { result.0 ≡ next_region g (front g image.now) }
+// The region that an open gives, if any is left. The paper says E-1 where there is none.
+pub fn next_region(image: &Image<'_>) -> Option<Region>
+    ensures number { region_or (no_region image.now.g) result ≡ next_region image.now.g (front_of image.now) }
+    ensures below { IfSome result (λ r. r.0 < no_region image.now.g) }
 {
-    let c = image::counter(g, image);
-    if c.0 < g.no_region().0 {
-        return c;
+    let c = image.counter();
+    if c < image.g.no_region() {
+        return Some(c);
     }
-    lowest_openable(g, image)
+    lowest_openable(image)
 }
 
 // The counter, while it gives the regions.
@@ -189,8 +189,9 @@ fn raise_counter(g: Geometry, image: &mut [u8])
     requires { Readable g image.old }
     ensures { image.new ≡ fronted g (raised g (front g image.old)) image.old }
 {
-    let c = image::counter(g, image);
-    if c.0 < g.no_region().0 {
+    let before = Image { g, bytes: image };
+    let c = before.counter();
+    if c < g.no_region() {
         image::set_counter(g, image, Region(c.0 + 1));
     }
 }

@@ -1,115 +1,101 @@
 -- `contents::read_from` meets its contract: a law for each return.
-use Prim.Native.Nat.{◌+◌, ◌*◌, ◌<◌, ◌≤◌}
-use mathlib.Core.Path.{◌≡◌, sym, ◌∙◌}
+use Rattle.std.proofs.Common.{◌≡◌, ◌+◌, ◌*◌, ◌<◌, ◌≤◌, sym, ◌∙◌, arith}
 use borrow.Author.Tests.{ltb-true, ltb-false}
 use Rattle.paper.specs.Geometry.{most_book_pages}
-use Rattle.paper.specs.Image.{front, pages_of}
+use Rattle.paper.specs.Image.{pages_of}
 use Rattle.paper.specs.Refusals.{touched_right}
 use Rattle.paper.proofs.Arithmetic.{book_bytes_bound}
 use Rattle.rules.specs.Facts.{Entered, IsBook}
 use Rattle.rules.proofs.Usable.{usable_facts}
-use Rattle.rules.proofs.Lines.{entered_whole, entered_shown, book_shown, read_stop, read_book, read_9, read_7, read_0}
+use Rattle.rules.proofs.Lines.{entered_shown, book_shown, read_stop, read_book, read_9, read_7, read_0}
+use Rattle.image.specs.Views.{front_of}
 use Rattle.stretches.specs.Stretch.{IsSpot}
 use Rattle.stretches.proofs.Walks.{spot_offset}
-use Rattle.contents.proofs.Told.{tells_no, tells_from}
-use native.Mathlib.Omega.{arith}
+use Rattle.desk.proofs.Refusing.{number_passed}
+use Rattle.contents.proofs.Reading.{lent_entered, lent_number}
 use Rattle.contents.proofs.read_from.Goals as goal
-use Rattle.contents.proofs.read_from.Goals.{After-spot-spot, After-touched_right, Else-beyond, Else-no-ne0, Else-no-ne0-2}
+use Rattle.contents.proofs.read_from.Goals.{In_ok-lent, In_ok-check_book, Else-beyond, After-spot-spot, After-touched_right}
 
 -- what each test has shown
-entered : (c : Else-no-ne0) → let a = c.args in Entered a.g a.image.now a.index.now
-entered c = entered_shown _ _ _ (sym c.entered-no.ensures ∙ c.if-no-ne0.false)
+entered : (c : In_ok-lent) → let l = c.in_ok-lent.lent in Entered l.image.g l.image.bytes.now l.index.bytes.now
+entered c = lent_entered c.in_ok-lent.ensures.lent c.in_ok-lent.ensures.number
 
-book : (c : Else-no-ne0-2) → let a = c.args in let t = front a.g a.image.now in
-    IsBook a.g t a.region.0 a.edition.0 × (pages_of a.g t a.region.0 ≤ most_book_pages a.g)
-book c = book_shown _ _ _ _ (sym c.book_refusal-no.ensures ∙ c.if-no-ne0-2.false)
+book : (c : In_ok-check_book)
+    → let i = c.in_ok-lent.lent.image in
+    let b = c.args.book in
+    IsBook i.g (front_of i) b.region.0 b.edition.0 × (pages_of i.g (front_of i) b.region.0 ≤ most_book_pages i.g)
+book c = book_shown _ _ _ _ (sym c.in_ok-check_book.ensures)
 
-inside : (c : Else-no-ne0-2) → c.args.region.0 < c.args.g.entries
-inside c = let a = c.args in omega (arith, (usable_facts a.g (front a.g a.image.now) a.region.0 (book c).0.usable).1)
+inside : (c : In_ok-check_book) → c.args.book.region.0 < c.in_ok-lent.lent.image.g.entries
+inside c = let i = c.in_ok-lent.lent.image in omega (arith, (usable_facts i.g (front_of i) c.args.book.region.0 (book c).0.usable).1)
 
-within : (c : Else-beyond) → let a = c.args in
-    a.offset.0 + a.n ≤ pages_of a.g (front a.g a.image.now) a.region.0 * a.g.page
+within : (c : Else-beyond)
+    → let i = c.in_ok-lent.lent.image in
+    c.args.offset.0 + c.args.n ≤ pages_of i.g (front_of i) c.args.book.region.0 * i.g.page
 within c = ltb-false _ _ (sym c.beyond.ensures ∙ c.if-beyond.false)
 
 -- the offset turned, and the positions from there
-turned : (c : After-spot-spot) → let a = c.args in IsSpot a.g a.offset.0 c.spot-spot.result
+turned : (c : After-spot-spot) → IsSpot c.in_ok-lent.lent.image.g c.args.offset.0 c.spot-spot.result
 turned c =
-    let a = c.args in
-    spot_offset a.g (entered_shown _ _ _ (sym c.entered-no.ensures ∙ c.if-no-ne0.false)).geometry a.offset.0 c.spot-spot.result c.spot-spot.ensures
+    rw c.in_ok-lent.ensures.lent.of_image.geometry
+    (spot_offset _ (entered_shown _ _ _ (sym c.in_ok-lent.ensures.number)).geometry _ _ c.spot-spot.ensures)
 
-touched : (c : After-touched_right) → let a = c.args in
-    c.touched_right.result ≡ touched_right a.g (front a.g a.image.now) a.index.now a.region.0 a.offset.0 a.n
-touched c =
-    let a = c.args in
-    let E = entered_shown _ _ _ (sym c.entered-no.ensures ∙ c.if-no-ne0.false) in
-    let I = spot_offset a.g E.geometry a.offset.0 c.spot-spot.result c.spot-spot.ensures in
-    rw I.offset at c.touched_right.ensures
+touched : (c : After-touched_right)
+    → let l = c.in_ok-lent.lent in
+    c.touched_right.result ≡ touched_right l.image.g (front_of l.image) l.index.bytes.now c.args.book.region.0 c.args.offset.0 c.args.n
+touched c = rw (turned (goal.at.After-touched_right c).After-spot-spot).offset at c.touched_right.ensures
 
-pub returns-then-no-ne0 : goal.returns-then-no-ne0
-returns-then-no-ne0 c =
-    let a = c.args in
-    let no = c.entered-no in
-    tells_no (read_stop a.g a.image.now a.index.now a.region.0 a.edition.0 a.offset.0 a.n no.result no.ensures c.if-no-ne0.true) c.if-no-ne0.true
+pub returns-in_err-lent-clause-number : goal.returns-in_err-lent-clause-number
+returns-in_err-lent-clause-number c = number_passed _ _ c.from_residual.ensures.1 c.in_err-lent.ensures.number (read_stop _ _ _ _ _ _ _)
 
-pub book_refusal-no-requires : goal.book_refusal-no-requires
-book_refusal-no-requires c = (entered_whole _ _ _ (entered (goal.at.book_refusal-no-requires c).Else-no-ne0)).headed.readable
+pub returns-in_err-check_book-clause-number : goal.returns-in_err-check_book-clause-number
+returns-in_err-check_book-clause-number c = number_passed _ _ c.from_residual-in_err-check_book.ensures.1 c.in_err-check_book.ensures
+    (λ k e ne. sym (lent_number c.in_ok-lent.ensures.lent _ _ _ _ (read_book _ _ _ _ _ _ _ (entered (goal.at.returns-in_err-check_book-clause-number c).In_ok-lent) k e ne)))
 
-pub returns-then-no-ne0-2 : goal.returns-then-no-ne0-2
-returns-then-no-ne0-2 c =
-    let a = c.args in
-    let no = c.book_refusal-no in
-    tells_no (read_book a.g a.image.now a.index.now a.region.0 a.edition.0 a.offset.0 a.n (entered (goal.at.returns-then-no-ne0-2 c).Else-no-ne0) no.result no.ensures c.if-no-ne0-2.true) c.if-no-ne0-2.true
+pub beyond-requires : goal.beyond-requires
+beyond-requires c =
+    let p = (goal.at.beyond-requires c).In_ok-check_book in
+    record { region_lt_entries = (inside p, (book p).1) }
 
-pub beyond-requires-clause-readable : goal.beyond-requires-clause-readable
-beyond-requires-clause-readable c = ((entered_whole _ _ _ (entered (goal.at.beyond-requires-clause-readable c).Else-no-ne0)).headed.readable)
-
-pub beyond-requires-clause-region_lt_entries : goal.beyond-requires-clause-region_lt_entries
-beyond-requires-clause-region_lt_entries c = ((inside (goal.at.beyond-requires-clause-region_lt_entries c).Else-no-ne0-2, (book (goal.at.beyond-requires-clause-region_lt_entries c).Else-no-ne0-2).1))
-
-pub returns-then-beyond : goal.returns-then-beyond
-returns-then-beyond c =
-    let a = c.args in
-    let past = ltb-true _ _ (sym c.beyond.ensures ∙ c.if-beyond.true) in
-    tells_no (read_9 a.g a.image.now a.index.now a.region.0 a.edition.0 a.offset.0 a.n (entered (goal.at.returns-then-beyond c).Else-no-ne0) (book (goal.at.returns-then-beyond c).Else-no-ne0-2).0 (book (goal.at.returns-then-beyond c).Else-no-ne0-2).1 past)
-    (λ z. omega arith)
-
-pub spot-spot-requires : goal.spot-spot-requires
-spot-spot-requires c = (entered (goal.at.spot-spot-requires c).Else-no-ne0).geometry
+pub returns-then-beyond-clause-number : goal.returns-then-beyond-clause-number
+returns-then-beyond-clause-number c =
+    let p = goal.at.returns-then-beyond-clause-number c in
+    let b = book p.In_ok-check_book in
+    lent_number c.in_ok-lent.ensures.lent _ _ _ _
+    (read_9 _ _ _ _ _ _ _ (entered p.In_ok-lent) b.0 b.1 (ltb-true _ _ (sym c.beyond.ensures ∙ c.if-beyond.true)))
 
 pub touched_right-requires-clause-entered : goal.touched_right-requires-clause-entered
 touched_right-requires-clause-entered c =
-    let E = entered (goal.at.touched_right-requires-clause-entered c).Else-no-ne0 in
-    let a = c.args in
-    let I = turned (goal.at.touched_right-requires-clause-entered c).After-spot-spot in
-    let small = book_bytes_bound a.g (pages_of a.g (front a.g a.image.now) a.region.0) E.geometry (book (goal.at.touched_right-requires-clause-entered c).Else-no-ne0-2).1 in
-    ((E, inside (goal.at.touched_right-requires-clause-entered c).Else-no-ne0-2))
+    let p = goal.at.touched_right-requires-clause-entered c in
+    (entered p.In_ok-lent, inside p.In_ok-check_book)
 
 pub touched_right-requires-clause-within_bound : goal.touched_right-requires-clause-within_bound
 touched_right-requires-clause-within_bound c =
-    let E = entered (goal.at.touched_right-requires-clause-within_bound c).Else-no-ne0 in
-    let a = c.args in
-    let I = turned (goal.at.touched_right-requires-clause-within_bound c).After-spot-spot in
-    let small = book_bytes_bound a.g (pages_of a.g (front a.g a.image.now) a.region.0) E.geometry (book (goal.at.touched_right-requires-clause-within_bound c).Else-no-ne0-2).1 in
-    ((I.inside, rw I.offset (omega (arith, within (goal.at.touched_right-requires-clause-within_bound c).Else-beyond))))
+    let p = goal.at.touched_right-requires-clause-within_bound c in
+    let I = turned p.After-spot-spot in
+    let i = c.in_ok-lent.lent.image in
+    let small = book_bytes_bound i.g (pages_of i.g (front_of i) c.args.book.region.0) (entered p.In_ok-lent).geometry (book p.In_ok-check_book).1 in
+    (I.inside, rw I.offset (omega (arith, within p.Else-beyond)))
 
-pub returns-then-not-touched_right : goal.returns-then-not-touched_right
-returns-then-not-touched_right c =
-    let a = c.args in
-    let wrong = sym (touched (goal.at.returns-then-not-touched_right c).After-touched_right) ∙ c.if-not-touched_right.true in
-    tells_no
-    (read_7 a.g a.image.now a.index.now a.region.0 a.edition.0 a.offset.0 a.n (entered (goal.at.returns-then-not-touched_right c).Else-no-ne0) (book (goal.at.returns-then-not-touched_right c).Else-no-ne0-2).0 (book (goal.at.returns-then-not-touched_right c).Else-no-ne0-2).1 (within (goal.at.returns-then-not-touched_right c).Else-beyond) wrong)
-    (λ z. omega arith)
+pub returns-then-not-touched_right-clause-number : goal.returns-then-not-touched_right-clause-number
+returns-then-not-touched_right-clause-number c =
+    let p = goal.at.returns-then-not-touched_right-clause-number c in
+    let b = book p.In_ok-check_book in
+    lent_number c.in_ok-lent.ensures.lent _ _ _ _
+    (read_7 _ _ _ _ _ _ _ (entered p.In_ok-lent) b.0 b.1 (within p.Else-beyond) (sym (touched p.After-touched_right) ∙ c.if-not-touched_right.true))
 
-pub returns : goal.returns
-returns c =
-    let a = c.args in
-    tells_from
-    (read_0 a.g a.image.now a.index.now a.region.0 a.edition.0 a.offset.0 a.n (record {
-      entered = entered (goal.at.returns c).Else-no-ne0;
-      usable = (book (goal.at.returns c).Else-no-ne0-2).0.usable;
-      fits = (book (goal.at.returns c).Else-no-ne0-2).1;
-      within = within (goal.at.returns c).Else-beyond;
-      right = sym (touched (goal.at.returns c).After-touched_right) ∙ c.if-not-touched_right.false;
-    })
-    (book (goal.at.returns c).Else-no-ne0-2).0.edition)
-    (turned (goal.at.returns c).After-spot-spot)
+pub returns-clause-number : goal.returns-clause-number
+returns-clause-number c =
+    let p = goal.at.returns-clause-number c in
+    let b = book p.In_ok-check_book in
+    lent_number c.in_ok-lent.ensures.lent _ _ _ _
+    (read_0 _ _ _ _ _ _ _ (record {
+      entered = entered p.In_ok-lent;
+      usable = b.0.usable;
+      fits = b.1;
+      within = within p.Else-beyond;
+      right = sym (touched p.After-touched_right) ∙ c.if-not-touched_right.false;
+    }) b.0.edition)
+
+pub returns-clause-spot : goal.returns-clause-spot
+returns-clause-spot c = rw (← c.in_ok-lent.ensures.lent.of_image.geometry) (turned (goal.at.returns-clause-spot c).After-spot-spot)

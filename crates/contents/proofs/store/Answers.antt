@@ -1,24 +1,23 @@
 -- `contents::store` meets its contract: refused, or done.
-use mathlib.Core.Path.{sym, ◌∙◌}
-use Rattle.paper.specs.Calls.{store}
+use Rattle.std.proofs.Common.{sym, ◌∙◌}
 use Rattle.paper.specs.Outcomes.{lent}
 use Rattle.rules.proofs.Lines.{store_number, store_done}
-use Rattle.contents.proofs.Told.{told_reads, told_refused}
+use Rattle.desk.proofs.Refusing.{outcome_left}
+use Rattle.contents.proofs.Reading.{spot_reads, read_index}
 use Rattle.contents.proofs.store.Goals as goal
 
+pub returns-in_err-spot : goal.returns-in_err-spot
+returns-in_err-spot c = outcome_left _ _ _ _ _ _ c.from_residual.ensures.1 (store_number _ _ _ _ _ _ _ ∙ sym c.in_err-spot.ensures.number)
+
+pub invariant_of-index : goal.invariant_of-index
+invariant_of-index c = record { indexed = read_index _ _ _ _ _ _ _ c.in_ok-spot.ensures.number }
+
 pub copy_in-requires : goal.copy_in-requires
-copy_in-requires c = told_reads c.read_from-reading.ensures c.in-From.is
+copy_in-requires c = spot_reads _ c.in_ok-spot.ensures.number c.in_ok-spot.ensures.spot
 
-pub returns-in-No : goal.returns-in-No
-returns-in-No c =
+pub returns : goal.returns
+returns c =
     let a = c.args in
-    told_refused c.read_from-reading.ensures c.in-No.is (store a.region.0 a.edition.0 a.offset.0 a.bytes.now)
-    (store_number a.g a.image.now a.index.now a.region.0 a.edition.0 a.offset.0 a.bytes.now)
-
-pub returns-in-From : goal.returns-in-From
-returns-in-From c =
-    let a = c.args in
-    let T = c.read_from-reading.ensures.accepted _ c.in-From.is in
-    let k = store_number a.g a.image.now a.index.now a.region.0 a.edition.0 a.offset.0 a.bytes.now ∙ T.0 in
-    rw (c.copy_in.ensures, T.1.offset)
-    (sym (store_done a.g (lent a.image.now a.index.now) a.region.0 a.edition.0 a.offset.0 a.bytes.now k))
+    let k = store_number _ _ _ _ _ _ _ ∙ sym c.in_ok-spot.ensures.number in
+    rw (c.copy_in.ensures, c.in_ok-spot.ensures.spot.offset)
+    (sym (store_done a.g (lent a.image.now a.index.now) a.book.region.0 a.book.edition.0 a.offset.0 a.bytes.now k))

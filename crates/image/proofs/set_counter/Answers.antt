@@ -10,4 +10,4 @@ pub returns : goal.returns
 unfolding set_counter
 returns c =
     let a = c.args in
-    c.write_u16.ensures ∙ put_front a.g a.image.now c.requires.readable 2 counter_at a.r.0 (omega arith)
+    c.write.ensures ∙ put_front a.g a.image.now c.requires.readable 2 counter_at a.r.0 (omega arith)

@@ -14,7 +14,7 @@ unfolding set_entry
 returns c =
     let a = c.args in
     let o = entry_at a.g a.b.0 in
-    c.write_u16-2.ensures
-    ∙ ap (λ (l : List ℕ). put 2 (c.entry_at-at.result + 2) a.p.0 l) c.write_u16.ensures
+    c.write-2.ensures
+    ∙ ap (λ (l : List ℕ). put 2 (c.entry_at-at.result + 2) a.p.0 l) c.write.ensures
     ∙ ap (λ (o : ℕ). put 2 (o + 2) a.p.0 (put 2 o a.r.0 a.image.now)) c.entry_at-at.ensures
     ∙ put_front2 a.g a.image.now c.requires.readable 2 o a.r.0 2 (o + 2) a.p.0 (omega arith) (omega arith)

@@ -18,7 +18,7 @@ returns c =
     let full = length_front a.g a.image.now (front_fits a.g a.image.now c.requires.readable) in
     rw (set_not_open-put a.g t (omega (arith, full)) a.r.0 c.requires.r_lt_entries.0)
     (
-    c.write_u64.ensures
+    c.write.ensures
     ∙ ap₂ (λ (o n : ℕ). put 8 o n a.image.now) c.size_at.ensures c.released_entry-entry.ensures
     ∙ put_front a.g a.image.now c.requires.readable 8 (size_at a.g a.r.0) (released_entry a.g t a.r.0) (omega arith)
     )

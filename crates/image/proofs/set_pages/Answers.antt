@@ -20,14 +20,14 @@ pub returns-then-is_version_3 : goal.returns-then-is_version_3
 returns-then-is_version_3 c =
     let a = c.args in
     let v = version_of a.g (front a.g a.image.now) in
-    c.write_u32.ensures
+    c.write.ensures
     ∙ ap (λ (o : ℕ). put 4 o a.n.0 a.image.now) c.size_at.ensures
-    ∙ in-width a.g a.image.now c.requires.readable a.r.0 a.n.0 4 (version3_width v (sym c.is_version_3.ensures ∙ c.if-is_version_3.true)) (omega arith)
+    ∙ in-width a.g a.image.now c.requires.readable a.r.0 a.n.0 4 (version3_width v (sym c.if-is_version_3.ensures)) (omega arith)
 
 pub returns-else-is_version_3 : goal.returns-else-is_version_3
 returns-else-is_version_3 c =
     let a = c.args in
     let v = version_of a.g (front a.g a.image.now) in
-    c.write_u64.ensures
+    c.write-else-is_version_3.ensures
     ∙ ap (λ (o : ℕ). put 8 o a.n.0 a.image.now) c.size_at-else-is_version_3.ensures
-    ∙ in-width a.g a.image.now c.requires.readable a.r.0 a.n.0 8 (version2_width v (sym c.is_version_3.ensures ∙ c.if-is_version_3.false)) (omega arith)
+    ∙ in-width a.g a.image.now c.requires.readable a.r.0 a.n.0 8 (version2_width v (sym c.if-is_version_3.ensures)) (omega arith)

@@ -10,4 +10,4 @@ pub returns : goal.returns
 unfolding set_taken
 returns c =
     let a = c.args in
-    c.write_u16.ensures ∙ put_front a.g a.image.now c.requires 2 taken_at a.n (omega arith)
+    c.write.ensures ∙ put_front a.g a.image.now c.requires 2 taken_at a.n (omega arith)

@@ -1,36 +1,25 @@
--- `laying::blank` meets its contract: one byte that is not zero is enough to say no, and the bytes below the end are all of them.
-use Prim.Native.Nat.{ℕ}
-use mathlib.Core.Bool.{Bool}
-use mathlib.Core.Path.{◌≡◌, sym}
+-- `laying::blank` meets its contract: the bytes that are lent are those of the header.
+use Prim.Native.Nat.{ℕ, ◌≤◌}
 use mathlib.Core.List.{List}
-use borrow.Author.Tests.{eq-eqb, ne_eqb}
+use mathlib.Core.Path.{◌≡◌, ap, ◌∙◌}
 use lib.Dec.{eqb}
-use lib.ListN.{get_or}
-use Rattle.laws.proofs.Folds.{all_none, all_more, not_all}
+use lib.ListN.{get_or, take, length}
+use lib.Seq.{get_or-take, length-take-le}
+use Rattle.laws.specs.Folds.{all_below}
+use Rattle.laws.proofs.Folds.{all_ext}
+use Rattle.paper.specs.declared.Geometry.{Geometry}
 use Rattle.paper.specs.Geometry.{header_bytes}
 use Rattle.paper.specs.Refusals.{blank}
-use native.Mathlib.Omega.{arith}
 use Rattle.laying.proofs.blank.Goals as goal
 
--- byte k is zero
-abbrev zero_byte : List ℕ → ℕ → Bool
-zero_byte image k = eqb (get_or image k 0) 0
-
-pub loop-i-init : goal.loop-i-init
-loop-i-init c = (omega arith, all_none _)
-
-pub returns-then-image-i-ne0 : goal.returns-then-image-i-ne0
+-- the test, as it is made of the part that is lent
+blank_header : (g : Geometry) (image : List ℕ) → header_bytes ≤ length image
+    → all_below (length (take header_bytes image)) (λ i. eqb (get_or (take header_bytes image) i 0) 0) ≡ blank g image
 unfolding blank
-returns-then-image-i-ne0 c =
-    sym (not_all header_bytes (zero_byte c.args.image.now) c.loop-i.i (omega arith) (ne_eqb _ _ c.if-image-i-ne0.true))
-
-pub loop-i-preserved : goal.loop-i-preserved
-loop-i-preserved c =
-    (omega arith, all_more c.loop-i.i (zero_byte c.args.image.now) c.loop-i.invariant.1 (eq-eqb _ _ c.if-image-i-ne0.false))
+blank_header g image h =
+    rw (length-take-le header_bytes image h)
+    (all_ext header_bytes (λ i. eqb (get_or (take header_bytes image) i 0) 0) (λ i. eqb (get_or image i 0) 0)
+    (λ i k. ap (λ n. eqb n 0) (get_or-take header_bytes image i 0 k)))
 
 pub returns : goal.returns
-unfolding blank
-returns c =
-    let x = c.loop-i in
-    let e : x.i ≡ header_bytes = omega arith in
-    sym (rw e at x.invariant.1)
+returns c = c.all_zero.ensures ∙ blank_header c.args.g c.args.image.now c.requires

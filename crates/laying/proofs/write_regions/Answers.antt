@@ -20,10 +20,14 @@ pub loop-r-preserved : goal.loop-r-preserved
 loop-r-preserved c =
     let a = c.args in
     let p = c.requires in
+    let l = c.loop-r in
     let v = version_number a.version in
-    let r = c.loop-r.r in
+    let size = moved_size a.pages.0 in
     let from = size_at a.g 0 in
-    let at : size_at a.g r ≡ from + 8 * r = omega arith in
-    let size = size_put v (moved_size a.pages.0) r (from + 8 * r) c.loop-r.image (moved_codable a.g p.0.allowed a.version a.pages.0 p.1 r) in
-    let more = splice_row 8 from r (size_row v (moved_size a.pages.0)) a.image.now (length_size v (moved_size a.pages.0)) (omega arith) in
-    (omega arith, c.write_u64.auto.s ∙ c.loop-r.invariant.1, cc (at, size, more))
+    let at : size_at a.g l.r ≡ from + 8 * l.r = omega arith in
+    let written = size_put v size l.r (size_at a.g l.r) l.image (moved_codable a.g p.0.allowed a.version a.pages.0 p.1 l.r) in
+    let more = splice_row 8 from l.r (size_row v size) a.image.now (length_size v size) (omega arith) in (
+      omega arith,
+      c.write.auto.s ∙ l.invariant.1,
+      (rw (c.size_at.ensures, c.new_size.ensures) at c.write.ensures) ∙ written ∙ rw (at, l.invariant.2) more,
+    )

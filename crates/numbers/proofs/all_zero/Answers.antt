@@ -1,13 +1,19 @@
--- The largest of the bytes below `i` is zero exactly where each of them is.
-use Prim.Native.Nat.{ℕ, max}
+-- The largest of the bytes is zero exactly where each of them is.
+use Prim.Native.Nat.{ℕ, zero, suc, max}
 use mathlib.Core.Bool.{Bool, ◌&&◌}
-use mathlib.Core.Path.{◌≡◌, sym}
+use mathlib.Core.List.{List, [], ◌∷◌}
+use mathlib.Core.Path.{◌≡◌, sym, ap, ◌∙◌}
 use native.Mathlib.Decide.{ℕ_discrete}
+use native.Mathlib.Omega.{arith}
+use borrow.Author.Rules.{rules}
 use borrow.Author.Tests.{ne_eqb}
 use lib.Dec.{eqb}
-use lib.ListN.{get_or}
-use Rattle.laws.proofs.Folds.{all_none, all_next}
-use native.Mathlib.Omega.{arith}
+use lib.ListN.{get_or, length}
+use Rattle.std.specs.List.{fold}
+use Rattle.std.proofs.Math.Bool.{and_assoc, and-true}
+use Rattle.std.proofs.lemmas.Iterator.{YieldsList-from_slice}
+use Rattle.std.proofs.lemmas.Iterator.Consumers.{fold_from_yields_List}
+use Rattle.laws.specs.Folds.{all_below}
 use Rattle.numbers.proofs.all_zero.Goals as goal
 
 -- the larger of two is zero where both are
@@ -19,11 +25,20 @@ max-zero a b = go (ℕ_discrete a 0) (ℕ_discrete b 0)
     go (yes d) (no n) = rw (d, ne_eqb b 0 n) (ne_eqb (max 0 b) 0 (λ z. omega arith))
     go (no n) _ = rw (ne_eqb a 0 n) (ne_eqb (max a b) 0 (λ z. omega arith))
 
-pub loop-i-init : goal.loop-i-init
-loop-i-init c = (omega arith, sym (all_none _))
+-- the first apart from the others
+all_first : (n : ℕ) (p : ℕ → Bool) → all_below (suc n) p ≡ (p 0 && all_below n (λ i. p (suc i)))
+unfolding all_below
+all_first zero p = sym (and-true (p 0))
+all_first (suc n) p = rw (all_first n p) (and_assoc (p 0) (all_below n (λ i. p (suc i))) (p (suc n)))
 
-pub loop-i-preserved : goal.loop-i-preserved
-loop-i-preserved c =
-    let a = c.args in
-    let zero-byte : ℕ → Bool = λ k. eqb (get_or a.part.now k 0) 0 in
-    (omega arith, rw (c.larger-largest.ensures, all_next c.loop-i.i zero-byte, ← c.loop-i.invariant.1) (max-zero c.loop-i.largest (get_or a.part.now c.loop-i.i 0)))
+largest-zero : (a : ℕ) (xs : List ℕ) → eqb (fold max a xs) 0 ≡ (eqb a 0 && all_below (length xs) (λ i. eqb (get_or xs i 0) 0))
+unfolding all_below
+largest-zero a [] = sym (and-true (eqb a 0))
+largest-zero a (x ∷ xs) =
+    rw (all_first (length xs) (λ i. eqb (get_or (x ∷ xs) i 0) 0), largest-zero (max a x) xs, max-zero a x) (and_assoc (eqb a 0) (eqb x 0) _)
+
+pub returns : goal.returns
+returns c =
+    let s = c.args.part.now in
+    let e = fold_from_yields_List _ max 0 c.fold.result c.fold.ensures.ran (YieldsList-from_slice s cc) (λ a x b q k. search rules) in
+    ap (λ (n : ℕ). eqb n 0) e ∙ largest-zero 0 s

@@ -1,10 +1,8 @@
 -- `i` numbers stand from `at` on.
-use Prim.Native.Nat.{◌≤◌}
 use mathlib.Core.Path.{◌≡◌}
-use lib.ListN.{length}
 use Rattle.laws.specs.Folds.{join_below}
 use Rattle.laws.specs.Bytes.{le, splice}
 use Rattle.numbers.proofs.fill_u16.Given as goal
 
 abbrev pub invariant-loop-i : goal.invariant-loop-i
-invariant-loop-i l = (l.i ≤ l.n) × (length l.s ≡ length l.initial.s) × (l.s ≡ splice l.at (join_below l.i (λ _. le 2 l.v)) l.initial.s)
+invariant-loop-i l = l.s ≡ splice l.at (join_below l.i (λ _. le 2 l.v)) l.initial.s

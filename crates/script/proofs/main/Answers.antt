@@ -1,7 +1,6 @@
--- The script starts from the image and index that lay leaves.
-use Rattle.std.proofs.Common.{ap}
-use Rattle.paper.specs.Outcomes.{Outcome}
+-- The lay is not refused.
+use Rattle.script.proofs.Start.{laid_lem}
 use Rattle.script.proofs.main.Goals as goal
 
-pub run-requires : goal.run-requires
-run-requires c = ap (λ (o : Outcome). o.state) c.lay.ensures
+pub unwrap-requires : goal.unwrap-requires
+unwrap-requires c = laid_lem _ _ c.lay.ensures

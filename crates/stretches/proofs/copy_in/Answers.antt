@@ -1,79 +1,69 @@
--- `copy_in` meets its contract: before the spot's block the image is the store's, up to there.
+-- `copy_in` meets its contract: before the walk's spot the image is the store's.
 use mathlib.Core.Path.{refl, ◌∙◌}
 use lib.ListN.{length}
-use Rattle.paper.specs.Index.{block_in}
 use Rattle.rules.proofs.Right.{reads_index, reads_need}
-use Rattle.stretches.specs.Stretch.{block_from, offset_of, Turn, Fits}
-use Rattle.stretches.proofs.Walks.{spot_first, walk_start, walk_end, walk_on, reads_turn, stretch_fits, written_none, written_on, written_all}
+use Rattle.stretches.specs.Stretch.{block_from, IsStep, Turn, Fits}
+use Rattle.stretches.proofs.Walks.{spot_first, walk_start, walk_end, same_step, step_on, step_done, step_turn, step_fits, written_none, step_written, written_done}
 use native.Mathlib.Omega.{arith}
 use Rattle.stretches.proofs.copy_in.Goals as goal
-use Rattle.stretches.proofs.copy_in.Goals.{After-stretch_at-s, In-loop-left}
+use Rattle.stretches.proofs.copy_in.Goals.{After-byte_at-to, In-Some}
 
-turn : (c : In-loop-left)
-    → let a = c.args in
-    Turn a.g a.index.now c.start_in-start.result c.loop-left.at (length a.image.now)
-turn c = reads_turn c.requires.0 c.start_in-start.ensures c.loop-left.invariant.0 c.loop-left-test.true
+step : (c : In-Some)
+    → let x = c.loop-at.at-iterator in
+    let y = c.next.new.self in
+    IsStep c.args.index.now.g x.at x.left c.in-Some.at c.in-Some.n y.at y.left
+step c = same_step c.loop-at.invariant.geometry c.in-Some.ensures.steps.0
 
-fits : (c : After-stretch_at-s)
-    → let x = c.loop-left in
-    Fits (length c.args.bytes.now) x.left (length x.image) c.stretch_at-s.result
+turn : (c : In-Some)
+    → let i = c.args.index.now in
+    Turn i.g i.bytes.now c.start-start.result c.in-Some.at (length c.args.image.now)
+turn c = step_turn c.loop-at.invariant.walk (step c) c.requires.0 c.start-start.ensures
+
+fits : (c : After-byte_at-to)
+    → let x = c.loop-at in
+    Fits (length c.args.bytes.now) x.at-iterator.left (length x.image) (record { at = c.byte_at-to.result; bytes = c.in-Some.n })
 fits c =
-    let x = c.loop-left in
-    let turned = reads_turn c.requires.0 c.start_in-start.ensures x.invariant.0 c.loop-left-test.true in
-    rw x.invariant.1 (stretch_fits x.invariant.0 c.loop-left-test.true turned c.stretch_at-s.ensures)
+    let p = (goal.at.After-byte_at-to c).In-Some in
+    rw c.loop-at.auto.image (step_fits c.loop-at.invariant.walk (step p) (turn p) c.byte_at-to.ensures)
 
-pub start_in-start-requires-clause-r_le_entries : goal.start_in-start-requires-clause-r_le_entries
-start_in-start-requires-clause-r_le_entries c =
+pub start-start-requires : goal.start-start-requires
+start-start-requires c = record { r_le_entries = (reads_index _ _ _ _ _ _ c.requires.0).1 }
+
+pub loop-at-init : goal.loop-at-init
+loop-at-init c =
     let a = c.args in
-    (reads_index a.g a.image.now a.index.now a.r.0 _ (length a.bytes.now) c.requires.0).1
+    rw c.into_iter-at-iterator.ensures.into_iter_gives (record {
+      geometry = refl;
+      walk = walk_start a.index.now.g a.spot c.requires.1 (length a.bytes.now);
+      done = omega arith;
+      written = written_none a.index.now.g (block_from a.index.now.g a.index.now.bytes.now c.start-start.result) _ a.bytes.now a.image.now a.spot.position.0 (spot_first a.index.now.g a.spot c.requires.1);
+    })
 
-pub loop-left-init : goal.loop-left-init
-loop-left-init c =
-    let a = c.args in (
-      walk_start a.g a.spot c.requires.1 (length a.bytes.now),
-      refl,
-      written_none a.g (block_from a.g a.index.now c.start_in-start.result) (offset_of a.g a.spot) a.bytes.now a.image.now
-          a.spot.position.0 (spot_first a.g a.spot c.requires.1),
-    )
-
-pub stretch_at-s-requires : goal.stretch_at-s-requires
-stretch_at-s-requires c =
-    let a = c.args in
-    let T = turn (goal.at.stretch_at-s-requires c).In-loop-left in
-    ((reads_index a.g a.image.now a.index.now a.r.0 _ (length a.bytes.now) c.requires.0).0, T.slot, T.inside)
+pub byte_at-to-requires : goal.byte_at-to-requires
+byte_at-to-requires c = let T = turn (goal.at.byte_at-to-requires c).In-Some in (T.slot, T.inside)
 
 pub copy_part-requires : goal.copy_part-requires
-copy_part-requires c = let F = fits (goal.at.copy_part-requires c).After-stretch_at-s in (omega (arith, F.asked), omega (arith, F.image))
+copy_part-requires c = let F = fits (goal.at.copy_part-requires c).After-byte_at-to in (omega (arith, F.asked, c.loop-at.invariant.done), F.image)
 
-pub next_block-at-requires : goal.next_block-at-requires
-next_block-at-requires c = (turn (goal.at.next_block-at-requires c).In-loop-left).bounded
+pub overflow_add-done : goal.overflow_add-done
+overflow_add-done c = let F = fits (goal.at.overflow_add-done c).After-byte_at-to in omega (arith, F.asked, c.loop-at.invariant.done)
 
-pub loop-left-preserved : goal.loop-left-preserved
-loop-left-preserved c =
-    let P = c.copy_part in
-    let a = c.args in
-    let x = c.loop-left in
-    let A = c.requires.0.entered.geometry in
-    let S = c.stretch_at-s.ensures in
-    let t = c.next_block-at in
-    let o = offset_of a.g a.spot in
-    let n = length a.bytes.now in
-    let h = c.loop-left-test.true in (
-      rw S.bytes (walk_on A x.invariant.0 h t.ensures.0 t.ensures.1),
-      P.auto.to ∙ x.invariant.1,
-      written_on a.g (block_from a.g a.index.now c.start_in-start.result) o a.bytes.now a.image.now A refl x.invariant.0 h x.invariant.2
-          (rw (S.at, S.bytes) at P.ensures) t.ensures.0,
-    )
+pub loop-at-preserved : goal.loop-at-preserved
+loop-at-preserved c =
+    let x = c.loop-at in
+    let A = c.args.index.now.indexed.allowed in
+    let S = step (goal.at.loop-at-preserved c).In-Some in
+    let at = block_from c.args.index.now.g c.args.index.now.bytes.now c.start-start.result in
+    record {
+      geometry = c.in-Some.ensures.steps.1 ∙ x.invariant.geometry;
+      walk = step_on x.invariant.walk S A;
+      done = step_done x.invariant.walk S x.invariant.done;
+      written = step_written _ at _ c.args.bytes.now c.args.image.now A refl x.invariant.walk S x.invariant.written c.byte_at-to.ensures x.invariant.done c.copy_part.ensures;
+    }
 
 pub returns : goal.returns
 returns c =
     let a = c.args in
-    let R = c.requires.0 in
-    let x = c.loop-left in
-    let o = offset_of a.g a.spot in
-    let n = length a.bytes.now in
-    let A = R.entered.geometry in
-    let e = walk_end A x.invariant.0 (omega arith) in
-    (rw (c.start_in-start.ensures, e) at x.invariant.2)
-    ∙ written_all a.g (block_in a.g a.index.now a.r.0) o a.bytes.now a.image.now A _
-    (reads_need a.g a.image.now a.index.now a.r.0 o n R)
+    let x = c.loop-at in
+    let A = a.index.now.indexed.allowed in
+    written_done _ _ a.bytes.now a.r.0 _ A x.invariant.written c.start-start.ensures (walk_end A x.invariant.walk c.in-None.ensures.steps) (reads_need _ _ _ _ _ _ c.requires.0)

@@ -1,15 +1,15 @@
--- `copy_in` meets its contract: before the spot's block the image is the store's, up to there.
+-- `copy_in` meets its contract: before the walk's spot the image is the store's.
+use Prim.Native.Nat.{◌-◌}
 use mathlib.Core.Path.{◌≡◌}
 use lib.ListN.{length}
 use Rattle.stretches.specs.Stretch.{block_from, offset_of, Walk}
 use Rattle.stretches.proofs.Walks.{written_to}
 use Rattle.stretches.proofs.copy_in.Given as goal
 
-abbrev pub invariant-loop-left : goal.invariant-loop-left
-invariant-loop-left l =
-    Walk l.g (offset_of l.g l.initial.at) (length l.bytes) l.at l.left
-    × (length l.image ≡ length l.initial.image)
-    × (l.image ≡ written_to l.g (block_from l.g l.index l.start) (offset_of l.g l.initial.at) l.bytes l.initial.image l.at.position.0)
-
-abbrev pub decreases-loop-left : goal.decreases-loop-left
-decreases-loop-left l = l.left
+abbrev pub invariant-loop-at : goal.invariant-loop-at
+invariant-loop-at l = record {
+  geometry : l.at-iterator.g ≡ l.index.g;
+  walk : Walk l.index.g (offset_of l.index.g l.fn.spot) (length l.bytes) l.at-iterator.at l.at-iterator.left;
+  done : l.done ≡ length l.bytes - l.at-iterator.left;
+  written : l.image ≡ written_to l.index.g (block_from l.index.g l.index.bytes.now l.start) (offset_of l.index.g l.fn.spot) l.bytes l.initial.image l.at-iterator.at.position.0;
+}

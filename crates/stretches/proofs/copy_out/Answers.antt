@@ -1,96 +1,79 @@
 -- `copy_out` meets its contract: the buffer holds as many of the book's bytes as are done.
-use Prim.Native.Nat.{◌+◌, ◌-◌, ◌≤◌}
 use mathlib.Core.Path.{◌≡◌, refl, ◌∙◌}
 use lib.ListN.{length}
 use Rattle.laws.proofs.Lists.{copied_splice}
-use Rattle.paper.specs.Index.{block_in}
 use Rattle.rules.proofs.Right.{reads_index}
-use Rattle.stretches.specs.Stretch.{block_from, offset_of, Turn, Fits}
-use Rattle.stretches.proofs.Walks.{walk_start, walk_on, walk_offset, reads_turn, stretch_fits, read_none, read_length, read_more, read_all}
+use Rattle.stretches.specs.Stretch.{block_from, IsStep, Turn, Fits}
+use Rattle.stretches.proofs.Walks.{walk_start, same_reads, same_step, step_on, step_done, step_turn, step_fits, read_none, step_read, read_done}
 use native.Mathlib.Omega.{arith}
 use Rattle.stretches.proofs.copy_out.Goals as goal
-use Rattle.stretches.proofs.copy_out.Goals.{After-stretch_at-s, In-loop-left}
+use Rattle.stretches.proofs.copy_out.Goals.{After-byte_at-from, In-Some}
 
-turn : (c : In-loop-left)
+step : (c : In-Some)
+    → let x = c.loop-at.at-iterator in
+    let y = c.next.new.self in
+    IsStep c.args.lent.now.index.g x.at x.left c.in-Some.at c.in-Some.bytes y.at y.left
+step c = same_step c.loop-at.invariant.geometry c.in-Some.ensures.steps.0
+
+turn : (c : In-Some)
+    → let l = c.args.lent.now in
+    Turn l.index.g l.index.bytes.now c.start-start.result c.in-Some.at (length l.image.bytes.now)
+turn c = step_turn c.loop-at.invariant.walk (step c) (same_reads _ c.args.lent.now.same c.requires).0 c.start-start.ensures
+
+fits : (c : After-byte_at-from)
     → let a = c.args in
-    Turn a.g a.index.now c.start_in-start.result c.loop-left.at (length a.image.now)
-turn c = reads_turn c.requires.0 c.start_in-start.ensures c.loop-left.invariant.0 c.loop-left-test.true
+    Fits (length a.buffer.now) c.loop-at.at-iterator.left (length a.lent.now.image.bytes.now) (record { at = c.byte_at-from.result; bytes = c.in-Some.bytes })
+fits c = let p = (goal.at.After-byte_at-from c).In-Some in step_fits c.loop-at.invariant.walk (step p) (turn p) c.byte_at-from.ensures
 
-fits : (c : After-stretch_at-s)
-    → let a = c.args in
-    Fits (length a.buffer.now) c.loop-left.left (length a.image.now) c.stretch_at-s.result
-fits c =
-    let turned = reads_turn c.requires.0 c.start_in-start.ensures c.loop-left.invariant.0 c.loop-left-test.true in
-    stretch_fits c.loop-left.invariant.0 c.loop-left-test.true turned c.stretch_at-s.ensures
+pub start-start-requires : goal.start-start-requires
+start-start-requires c = record { r_le_entries = (reads_index _ _ _ _ _ _ (same_reads _ c.args.lent.now.same c.requires).0).1 }
 
-room : (c : After-stretch_at-s)
-    → let x = c.loop-left in
-    length c.args.buffer.now - x.left + c.stretch_at-s.result.bytes ≤ length x.buffer
-room c = rw c.loop-left.invariant.1 (fits c).asked
-
-pub start_in-start-requires-clause-r_le_entries : goal.start_in-start-requires-clause-r_le_entries
-start_in-start-requires-clause-r_le_entries c =
+pub loop-at-init : goal.loop-at-init
+loop-at-init c =
     let a = c.args in
-    (reads_index a.g a.image.now a.index.now a.r.0 _ (length a.buffer.now) c.requires.0).1
+    let R = same_reads _ a.lent.now.same c.requires in
+    rw c.into_iter-at-iterator.ensures.into_iter_gives (record {
+      geometry = refl;
+      walk = walk_start a.lent.now.index.g a.spot R.1 (length a.buffer.now);
+      done = omega arith;
+      read = read_none _ R.0.entered.geometry _ _ _ _ _ refl;
+    })
 
-pub loop-left-init : goal.loop-left-init
-loop-left-init c =
-    let a = c.args in (
-      walk_start a.g a.spot c.requires.1 (length a.buffer.now),
-      refl,
-      read_none a.g c.requires.0.entered.geometry (block_from a.g a.index.now c.start_in-start.result) (offset_of a.g a.spot) a.image.now
-          a.buffer.now _ (omega arith),
-    )
-
-pub stretch_at-s-requires : goal.stretch_at-s-requires
-stretch_at-s-requires c =
-    let a = c.args in
-    let T = turn (goal.at.stretch_at-s-requires c).In-loop-left in
-    ((reads_index a.g a.image.now a.index.now a.r.0 _ (length a.buffer.now) c.requires.0).0, T.slot, T.inside)
+pub byte_at-from-requires : goal.byte_at-from-requires
+byte_at-from-requires c = let T = turn (goal.at.byte_at-from-requires c).In-Some in (T.slot, T.inside)
 
 pub overflow_add-from : goal.overflow_add-from
-overflow_add-from c = let F = fits (goal.at.overflow_add-from c).After-stretch_at-s in omega arith
-
-pub next_block-at-requires : goal.next_block-at-requires
-next_block-at-requires c = (turn (goal.at.next_block-at-requires c).In-loop-left).bounded
-
-pub loop-left-preserved : goal.loop-left-preserved
-loop-left-preserved c =
-    let P = c.copy in
-    let a = c.args in
-    let x = c.loop-left in
-    let A = c.requires.0.entered.geometry in
-    let Q = c.stretch_at-s in
-    let S = Q.ensures in
-    let q = Q.result in
-    let F = fits (goal.at.loop-left-preserved c).After-stretch_at-s in
-    let T = turn (goal.at.loop-left-preserved c).In-loop-left in
-    let t = c.next_block-at in
-    let o = offset_of a.g a.spot in
-    let n = length a.buffer.now in
-    let d = n - x.left in
-    let h = c.loop-left-test.true in
-    let at = block_from a.g a.index.now c.start_in-start.result in
-    let e = copied_splice q.at d q.bytes a.image.now x.buffer P.new.to F.image P.ensures in
-    let next = walk_offset A x.invariant.0 h in
-    let more = read_more a.g A at o a.image.now a.buffer.now x.at.position.0 x.at.within q.bytes d
-    (omega (arith, S.bytes, T.inside)) (rw S.at at F.image) next in
-    let l : d + q.bytes ≡ n - (x.left - q.bytes) = omega (arith, F.most, x.invariant.0.rest) in (
-      rw S.bytes (walk_on A x.invariant.0 h t.ensures.0 t.ensures.1),
-      rw (e, S.at, x.invariant.2, more) (read_length a.g A at o a.image.now a.buffer.now (d + q.bytes) F.asked),
-      rw (e, S.at, x.invariant.2, more, l),
-    )
+overflow_add-from c = let F = fits (goal.at.overflow_add-from c).After-byte_at-from in omega (arith, F.image)
 
 pub slice_bounds-copy-end : goal.slice_bounds-copy-end
-slice_bounds-copy-end c = let F = fits (goal.at.slice_bounds-copy-end c).After-stretch_at-s in omega arith
+slice_bounds-copy-end c = let F = fits (goal.at.slice_bounds-copy-end c).After-byte_at-from in omega (arith, F.image)
+
+pub overflow_add-done : goal.overflow_add-done
+overflow_add-done c = let F = fits (goal.at.overflow_add-done c).After-byte_at-from in omega (arith, F.asked)
+
+pub slice_bounds-copy-end-in-loop-at : goal.slice_bounds-copy-end-in-loop-at
+slice_bounds-copy-end-in-loop-at c = let F = fits (goal.at.slice_bounds-copy-end-in-loop-at c).After-byte_at-from in omega (arith, F.asked)
+
+pub loop-at-preserved : goal.loop-at-preserved
+loop-at-preserved c =
+    let p = goal.at.loop-at-preserved c in
+    let a = c.args in
+    let x = c.loop-at in
+    let A = a.lent.now.index.indexed.allowed in
+    let S = step p.In-Some in
+    let F = fits p.After-byte_at-from in
+    let at = block_from a.lent.now.index.g a.lent.now.index.bytes.now c.start-start.result in
+    record {
+      geometry = c.in-Some.ensures.steps.1 ∙ x.invariant.geometry;
+      walk = step_on x.invariant.walk S A;
+      done = step_done x.invariant.walk S x.invariant.done;
+      read = copied_splice _ x.done _ _ x.buffer _ F.image c.copy.ensures
+          ∙ rw x.invariant.read (step_read at _ a.buffer.now A x.invariant.walk S c.byte_at-from.ensures F.image x.invariant.done);
+    }
 
 pub returns : goal.returns
 returns c =
     let a = c.args in
-    let R = c.requires.0 in
-    let x = c.loop-left in
-    let o = offset_of a.g a.spot in
-    let n = length a.buffer.now in
-    let A = R.entered.geometry in
-    let z : n - x.left ≡ n = omega arith in
-    (rw c.start_in-start.ensures at x.invariant.2) ∙ read_all a.g A (block_in a.g a.index.now a.r.0) o a.image.now a.buffer.now _ z
+    let x = c.loop-at in
+    let e : x.done ≡ length a.buffer.now = omega (arith, x.invariant.done, c.in-None.ensures.steps) in
+    rw (← a.lent.now.same) (read_done _ _ a.buffer.now a.r.0 _ a.lent.now.index.indexed.allowed x.invariant.read c.start-start.ensures e)

@@ -6,11 +6,10 @@ use Rattle.stretches.specs.Stretch.{block_from, offset_of, Walk}
 use Rattle.stretches.proofs.Walks.{read_to}
 use Rattle.stretches.proofs.copy_out.Given as goal
 
-abbrev pub invariant-loop-left : goal.invariant-loop-left
-invariant-loop-left l =
-    Walk l.g (offset_of l.g l.initial.at) (length l.initial.buffer) l.at l.left
-    × (length l.buffer ≡ length l.initial.buffer)
-    × (l.buffer ≡ read_to l.g (block_from l.g l.index l.start) (offset_of l.g l.initial.at) l.image l.initial.buffer (length l.initial.buffer - l.left))
-
-abbrev pub decreases-loop-left : goal.decreases-loop-left
-decreases-loop-left l = l.left
+abbrev pub invariant-loop-at : goal.invariant-loop-at
+invariant-loop-at l = record {
+  geometry : l.at-iterator.g ≡ l.lent.index.g;
+  walk : Walk l.lent.index.g (offset_of l.lent.index.g l.fn.spot) (length l.initial.buffer) l.at-iterator.at l.at-iterator.left;
+  done : l.done ≡ length l.initial.buffer - l.at-iterator.left;
+  read : l.buffer ≡ read_to l.lent.index.g (block_from l.lent.index.g l.lent.index.bytes.now l.start) (offset_of l.lent.index.g l.fn.spot) l.lent.image.bytes.now l.initial.buffer l.done;
+}

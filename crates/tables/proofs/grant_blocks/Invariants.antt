@@ -10,6 +10,7 @@ use Rattle.tables.proofs.grant_blocks.Given as goal
 
 abbrev pub invariant-loop-j : goal.invariant-loop-j
 invariant-loop-j l =
+    let g = l.index.g in
     (l.j ≤ l.count)
     × (length l.image ≡ length l.initial.image)
-    × (l.image ≡ fronted l.g (steps l.j (placed l.g l.index l.region.0 l.s) (front l.g l.initial.image)) l.initial.image)
+    × (l.image ≡ fronted g (steps l.j (placed g l.index.bytes.now l.region.0 l.s) (front g l.initial.image)) l.initial.image)

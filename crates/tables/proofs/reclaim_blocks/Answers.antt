@@ -30,7 +30,7 @@ reclaim-requires-clause-b_bound c =
     let t = front a.g a.image.now in
     let p = c.requires in
     let R = p.releasable in
-    let n = c.taken-n.ensures in
+    let n = c.taken-b-end.ensures in
     let u = steps x.b (reclaiming a.g t a.region.0 a.spare) t in
     let f = front_is a.g a.image.now x.image u p.readable x.invariant.1 x.invariant.2 in
     let L = later a.g t (whole a.g a.image.now p.readable) a.region.0 a.spare x.b (omega (arith, R.bound)) in
@@ -44,7 +44,7 @@ loop-b-preserved c =
     let t = front a.g a.image.now in
     let p = c.requires in
     let u = steps x.b (reclaiming a.g t a.region.0 a.spare) t in
-    let n = c.taken-n.ensures in
+    let n = c.taken-b-end.ensures in
     let L = later a.g t (whole a.g a.image.now p.readable) a.region.0 a.spare x.b (omega (arith, p.releasable.bound)) in (
       omega arith,
       c.reclaim.auto.image ∙ x.invariant.1,

@@ -10,7 +10,7 @@ use Rattle.tables.proofs.reclaim_blocks.Given as goal
 
 abbrev pub invariant-loop-b : goal.invariant-loop-b
 invariant-loop-b l =
-    (l.b ≤ l.n)
+    (l.b ≤ l.b-end)
     × (length l.image ≡ length l.initial.image)
     × (l.image
     ≡ fronted l.g (steps l.b (reclaiming l.g (front l.g l.initial.image) l.region.0 l.spare) (front l.g l.initial.image)) l.initial.image)

@@ -1,6 +1,0 @@
--- `any::any_load` meets its contract, by that of `load`.
-use Rattle.host.proofs.HostSees.{host_sees_lem}
-use Rattle.any.proofs.any_load.Goals as goal
-
-pub returns : goal.returns
-returns c = host_sees_lem _ _ c.pack.ensures c.given.ensures c.load.ensures

@@ -1,6 +1,0 @@
--- `host::book_release` meets its contract, by that of `release`.
-use Rattle.host.proofs.HostSees.{host_sees_lem}
-use Rattle.host.proofs.book_release.Goals as goal
-
-pub returns : goal.returns
-returns c = host_sees_lem _ _ c.pack.ensures c.geometry_of.ensures c.release.ensures

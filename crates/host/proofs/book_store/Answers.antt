@@ -1,6 +1,0 @@
--- `host::book_store` meets its contract, by that of `store`.
-use Rattle.host.proofs.HostSees.{host_sees_lem}
-use Rattle.host.proofs.book_store.Goals as goal
-
-pub returns : goal.returns
-returns c = host_sees_lem _ _ c.pack.ensures c.geometry_of.ensures c.store.ensures

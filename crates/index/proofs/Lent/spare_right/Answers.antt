@@ -1,0 +1,11 @@
+-- `index::Lent::spare_right` meets its contract.
+use Rattle.std.proofs.Common.{rules, tests}
+use Rattle.laws.proofs.Ranges.{all_in_range}
+use Rattle.image.specs.Views.{front_of}
+use Rattle.index.specs.Witnessed.{spare_right}
+use Rattle.index.proofs.Lent.spare_right.Goals as goal
+
+pub returns : goal.returns
+returns c =
+    let l = c.args.self.now in
+    all_in_range _ _ (spare_right l.image.g (front_of l.image) l.index.bytes.now) c.all.ensures.ran (search rules) (search (rules, tests))

@@ -1,0 +1,2 @@
+-- The library's bytes in the words of laws.
+pub mod Library
