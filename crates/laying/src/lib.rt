@@ -65,6 +65,8 @@ fn write_blocks(g: Geometry, image: &mut [u8], taken: u16)
     }
 }
 
+// ---- entries as they are written: all eight bytes as one number
+
 // What stands in the entry of a region that is not open: all ones in the bytes that the version has for the pages, and edition 0.
 #[tactic(auto, using(rules::proofs::Cells::coded_not_open), unfolding(paper::specs::Image::size_width))]
 fn not_open(version: Version) -> u64
