@@ -30,7 +30,8 @@ pub struct Headed<'a> {
 }
 
 // ---- what stands in the header and the tables. Regions and blocks are numbers as they are read or given, and need not be below E and B: a type
-// for those that are would hold the geometry with each of them, and so each function asks for the bound that it needs
+// for those that are would hold the geometry with each of them, and so each function asks for the bound that it needs, or holds the number against
+// the count
 
 impl Image<'_> {
     ghost use Rattle.image.specs.Views.{front_of};
@@ -207,6 +208,7 @@ pub fn set_not_open(g: Geometry, image: &mut [u8], r: Region)
     entry.write(image, g.size_at(r));
 }
 
+// Whether the number names a version is all that is asked of it here.
 fn is_version(v: u32) -> bool
     ensures { result ≡ (eqb v version2 || eqb v version3) }
 {

@@ -42,7 +42,7 @@ pub struct Tables<'a> {
     pub ghost tabled: { Tabled image.g image.bytes.now },
 }
 
-// ---- what an index says
+// ---- what an index says. Regions, blocks and slots are asked for within their bounds, as in image
 
 impl Index<'_> {
     pub fn start(&self, r: Region) -> u16

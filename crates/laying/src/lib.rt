@@ -17,7 +17,8 @@ ghost use Rattle.rules.specs.Facts.{Readable, Indexed, fronted};
 use numbers::Number;
 use paper::{Block, Geometry, Pages, Position, Refusal, Region, Version};
 
-// ---- header and tables. What is written is lent by itself (image says why)
+// ---- header and tables. What is written is lent by itself (image says why), and each function asks that the
+// geometry has the blocks
 
 // C is the first region that can be opened.
 #[tactic(auto, using(rules::proofs::Written::header_put))]

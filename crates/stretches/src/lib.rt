@@ -24,7 +24,7 @@ pub struct Stretch {
     pub bytes: usize,
 }
 
-// ---- a walk from block to block
+// ---- a walk from block to block. A spot lies inside its block by the geometry at hand, which it does not hold, so each function asks for that
 
 // Of so many bytes left, those that fall into the spot's block.
 fn in_block(g: Geometry, spot: Spot, left: usize) -> usize
