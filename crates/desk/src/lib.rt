@@ -14,7 +14,7 @@ ghost use Rattle.index.specs.Views.{IsLent};
 
 use image::{Headed, Image};
 use index::{Index, Lent};
-use paper::{Block, Book, Edition, Geometry, Pages, Refusal, Region};
+use paper::{Block, Book, Geometry, Pages, Refusal, Region};
 
 // ---- shared refusals. What passes them is given back as a value that says so
 
@@ -60,12 +60,13 @@ pub fn indexed_head<'a>(g: Geometry, image: &'a [u8], index: &[u8]) -> Result<He
     ensures number { no_in result ≡ indexed_head_no g image.now index.now }
     ensures image { IfOk result (λ h. IsImage g image.now h.image) }
 {
-    lent(g, image, index)?;
-    let image = Image { g, bytes: image };
-    if !image.header_right() {
-        return Err(Refusal::HeaderWrong);
+    if !g.allowed() {
+        return Err(Refusal::GeometryWrong);
     }
-    Ok(Headed { image })
+    if index.len() != g.index_bytes() {
+        return Err(Refusal::IndexLength);
+    }
+    head(g, image)
 }
 
 // The image has room for fewer blocks than were taken: it ends before the next one, block N, would begin. N is at most B, so this says as
@@ -119,11 +120,11 @@ pub fn usable(image: &Image<'_>, region: Region) -> bool
 }
 
 // The region's book is the one of that edition.
-pub fn is_edition(image: &Image<'_>, region: Region, edition: Edition) -> bool
-    requires region_lt_entries { region.0 < image.now.g.entries }
-    ensures { result ≡ eqb (edition_of image.now.g (front_of image.now) region.0) edition.0 }
+pub fn is_edition(image: &Image<'_>, book: Book) -> bool
+    requires region_lt_entries { book.region.0 < image.now.g.entries }
+    ensures { result ≡ eqb (edition_of image.now.g (front_of image.now) book.region.0) book.edition.0 }
 {
-    image.edition(region) == edition
+    image.edition(book.region) == book.edition
 }
 
 // 8, 18.
@@ -134,7 +135,7 @@ pub fn name_book(image: &Image<'_>, book: Book) -> Result<(), Refusal>
     if !usable(image, book.region) {
         return Err(Refusal::Unusable);
     }
-    if !is_edition(image, book.region, book.edition) {
+    if !is_edition(image, book) {
         return Err(Refusal::Stale);
     }
     Ok(())

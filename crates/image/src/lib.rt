@@ -29,7 +29,9 @@ pub struct Headed<'a> {
     pub ghost header: { Header image.g (front image.g image.bytes.now) },
 }
 
-// ---- what stands in the header and the tables
+// ---- what stands in the header and the tables. Regions and blocks are numbers as they are read or given, and need not be below E and B: a type
+// for those that are would hold the geometry with each of them, and so each function asks for the bound that it needs, or holds the number against
+// the count
 
 impl Image<'_> {
     ghost use Rattle.image.specs.Views.{front_of};
@@ -206,6 +208,7 @@ pub fn set_not_open(g: Geometry, image: &mut [u8], r: Region)
     entry.write(image, g.size_at(r));
 }
 
+// Whether the number names a version is all that is asked of it here.
 fn is_version(v: u32) -> bool
     ensures { result ≡ (eqb v version2 || eqb v version3) }
 {
@@ -296,7 +299,9 @@ impl Image<'_> {
         u64::read(self.bytes, self.g.size_at(r)) == entry
     }
 
-    // Both sentences about the regions from C on.
+    // Both sentences about the regions from C on. It is compiled by itself: among the other passes of a call its count would lie on the stack, and
+    // each look would wait for it.
+    #[inline(never)]
     fn high_fresh(&self) -> bool
         ensures { result ≡ all_from (counter self.now.g (front_of self.now)) self.now.g.entries (fresh self.now.g (front_of self.now)) }
     {

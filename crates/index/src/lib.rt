@@ -42,7 +42,7 @@ pub struct Tables<'a> {
     pub ghost tabled: { Tabled image.g image.bytes.now },
 }
 
-// ---- what an index says
+// ---- what an index says. Regions, blocks and slots are asked for within their bounds, as in image
 
 impl Index<'_> {
     pub fn start(&self, r: Region) -> u16
@@ -289,7 +289,8 @@ impl Tables<'_> {
         same_run(REGIONS_AT_ONCE, r, w.first.0 as usize) & same_run(SLOTS_AT_ONCE, s, w.from)
     }
 
-    // One pass over the blocks for a window that `seen` has bits for. Not by `all`, since each block changes what the next is held against.
+    // One pass over the blocks for a window that `seen` has bits for. Not by `all`: its law (laws/proofs/Ranges)
+    // is of tests that leave all as it was, and each block changes what the next is held against.
     fn window_apart(&self, w: Window, work: &mut Work) -> bool
         requires framed { Framed self.now.image.g (front_of self.now.image) w work.old.starts }
         requires run { Run self.now.image.g (front_of self.now.image) w }

@@ -17,7 +17,8 @@ ghost use Rattle.rules.specs.Facts.{Readable, Indexed, fronted};
 use numbers::Number;
 use paper::{Block, Geometry, Pages, Position, Refusal, Region, Version};
 
-// ---- header and tables. What is written is lent by itself (image says why)
+// ---- header and tables. What is written is lent by itself (image says why), and each function asks that the
+// geometry has the blocks
 
 // C is the first region that can be opened.
 #[tactic(auto, using(rules::proofs::Written::header_put))]
@@ -64,6 +65,8 @@ fn write_blocks(g: Geometry, image: &mut [u8], taken: u16)
         image::set_entry(g, image, b, owner, place);
     }
 }
+
+// ---- entries as they are written: all eight bytes as one number
 
 // What stands in the entry of a region that is not open: all ones in the bytes that the version has for the pages, and edition 0.
 #[tactic(auto, using(rules::proofs::Cells::coded_not_open), unfolding(paper::specs::Image::size_width))]

@@ -18,7 +18,7 @@ pub extern "C" fn leaf_copy(from: &[u8], to: &mut [u8]) -> u32
     0
 }
 
-// Answers 1 where every byte is zero, and 0 otherwise.
+// Answers 1 where every byte is zero, and 0 otherwise: a number, as C has it.
 #[tactic(auto, unfolding(crate::specs::Look::looked))]
 #[unsafe(no_mangle)]
 pub extern "C" fn leaf_all_zero(bytes: &[u8]) -> u32

@@ -23,7 +23,7 @@ fn movable(g: Geometry, image: &[u8], index: &[u8], pages: Pages) -> Result<(), 
     Ok(())
 }
 
-// The whole first block, to the end: past the last block of the old memory.
+// The whole first block, to the end: past the last block of the old memory. (What is written is lent by itself: image says why.)
 fn move_block(g: Geometry, image: &mut [u8], pages: Pages)
     requires { Readable g image.old × (need g pages.0 ≤ capacity g (length image.old)) }
     ensures { image.new ≡ moved_data g pages.0 image.old }

@@ -51,7 +51,7 @@ fn recoverable<'a>(g: Geometry, image: &'a [u8], index: &[u8]) -> Result<Image<'
 }
 
 // Whether the tables keep the rules and the index is what recovery would give: the index is its own witness. Its starts tell the needs and
-// their sum, so that each book fits, and its slots that no two blocks name the same pair.
+// their sum, so that each book fits, and its slots that no two blocks name the same pair. (N is at most B: index asks no more of the header.)
 #[tactic(auto, unfolding(crate::specs::Refused::vouched))]
 fn vouched(lent: &Lent<'_, '_>) -> bool
     requires image_bound { taken lent.now.image.g (front_of lent.now.image) ≤ lent.now.image.g.blocks }

@@ -202,7 +202,7 @@ fn perform(image: &mut [u8], index: &mut [u8], bytes: &[u8]) -> Result<u64, Faul
 
 // ---- a line
 
-// 0, or the refusal's number; and the value.
+// As it is printed: 0, or the refusal's number; and the value.
 #[derive(Clone, Copy)]
 struct Line {
     refusal: u8,

@@ -24,7 +24,7 @@ pub struct Stretch {
     pub bytes: usize,
 }
 
-// ---- a walk from block to block
+// ---- a walk from block to block. A spot lies inside its block by the geometry at hand, which it does not hold, so each function asks for that
 
 // Of so many bytes left, those that fall into the spot's block.
 fn in_block(g: Geometry, spot: Spot, left: usize) -> usize
@@ -130,7 +130,7 @@ pub fn touched_right(lent: &Lent<'_, '_>, r: Region, spot: Spot, n: usize) -> bo
     walk.all(|(at, _)| right_at(lent, r, start, at.position))
 }
 
-// ---- stretch by stretch. What is done is counted beside the walk: the rest of a lent slice, taken apart at each turn, reads no plainer
+// ---- stretch by stretch. What is written is lent by itself (image says why). What is done is counted beside the walk: the rest of a lent slice, taken apart at each turn, reads no plainer
 
 // The book's bytes from the spot on, as many as the buffer holds.
 pub fn copy_out(lent: &Lent<'_, '_>, r: Region, spot: Spot, buffer: &mut [u8])

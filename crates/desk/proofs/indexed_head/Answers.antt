@@ -1,11 +1,12 @@
 -- `desk::indexed_head` meets its contract.
-use Rattle.std.proofs.Common.{sym}
-use Rattle.rules.proofs.Lines.{lent_shown}
-use Rattle.desk.proofs.Naming.{header_seen}
+use Rattle.std.proofs.Common.{sym, ◌∙◌, arith}
+use Rattle.paper.proofs.Arithmetic.{allowed_facts}
+use Rattle.rules.proofs.Lines.{indexed_head_on}
 use Rattle.desk.proofs.indexed_head.Goals as goal
 
-pub invariant_of-image : goal.invariant_of-image
-invariant_of-image c = record { readable = (lent_shown _ _ _ (sym c.in_ok-lent.ensures)).0 }
+pub index_bytes-requires : goal.index_bytes-requires
+index_bytes-requires c = allowed_facts _ (sym c.allowed.ensures ∙ c.if-not-allowed.false)
 
-pub invariant_of-result : goal.invariant_of-result
-invariant_of-result c = record { header = header_seen _ _ (lent_shown _ _ _ (sym c.in_ok-lent.ensures)).0 (sym c.if-not-header_right.ensures) }
+pub returns-clause-number : goal.returns-clause-number
+returns-clause-number c =
+    c.head.ensures.number ∙ sym (indexed_head_on _ _ _ (allowed_facts _ (sym c.allowed.ensures ∙ c.if-not-allowed.false)) (omega (arith, c.index_bytes.ensures)))
