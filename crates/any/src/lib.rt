@@ -1,5 +1,5 @@
 // The calls over any four numbers for a geometry, for tests and measurements alone: those of host, each exported under its own name with its
-// own promise. No call asks that the four be allowed.
+// own promise. No call asks that the four be allowed, and each answers one number, as C has it.
 #![tactic(auto)]
 
 ghost use Rattle.std.specs.Prelude.{◌≡◌, []};

@@ -33,7 +33,7 @@ fn has_room(image: &Image<'_>, region: Region, pages: Pages) -> bool
     pages.0 <= most - old.0
 }
 
-// After an accepted grow or release the index is what recover would then write.
+// After an accepted grow or release the index is what recover would then write. (It is lent by itself: image says why.)
 fn index_anew(image: &Image<'_>, index: &mut [u8])
     requires indexed { Indexed image.now.g index.old }
     requires formed { Formed image.now.g (capacity image.now.g (length image.now.bytes.now)) (front_of image.now) }
@@ -73,7 +73,8 @@ pub fn release(g: Geometry, image: &mut [u8], index: &mut [u8], book: Book) -> R
     Ok(())
 }
 
-// ---- grow, step by step. What is written is lent by itself (image says why), so each step asks again what a growth is
+// ---- grow, step by step. What is written is lent by itself (image says why), so each step asks again what
+// a growth is: what holds of region and pages has that name
 
 // The blocks for so many pages more, and last the page count: until it is written the needs sum to less than N, and recovery refuses.
 fn grow_tables(image: &mut [u8], index: &Index<'_>, region: Region, pages: Pages)

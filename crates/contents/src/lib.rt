@@ -15,6 +15,7 @@ use image::Image;
 use index::{Index, Lent};
 use paper::{Book, Geometry, Offset, Refusal, Region, Spot};
 
+// Bounds are asked, and numbers held against counts, as in image.
 fn book_bytes(image: &Image<'_>, region: Region) -> u64
     requires region_lt_entries { (region.0 < image.now.g.entries) × (pages_of image.now.g (front_of image.now) region.0 ≤ most_book_pages image.now.g) }
     ensures { result ≡ pages_of image.now.g (front_of image.now) region.0 * image.now.g.page }

@@ -119,7 +119,7 @@ pub fn usable(image: &Image<'_>, region: Region) -> bool
     callable && region < image.g.no_region() && image.is_open(region)
 }
 
-// The region's book is the one of that edition.
+// The region's book is the one of that edition. (A region inside the table is asked, as in image.)
 pub fn is_edition(image: &Image<'_>, book: Book) -> bool
     requires region_lt_entries { book.region.0 < image.now.g.entries }
     ensures { result ≡ eqb (edition_of image.now.g (front_of image.now) book.region.0) book.edition.0 }

@@ -1,4 +1,5 @@
-// What a host in C or Rust links: the calls of host, each exported under its own name with its own promise, over numbers and byte slices only.
+// What a host in C or Rust links: the calls of host, each exported under its own name with its own promise, over numbers and byte slices only: each
+// answers one number, as C has it.
 #![tactic(auto)]
 
 ghost use Rattle.std.specs.Prelude.{◌≡◌, []};

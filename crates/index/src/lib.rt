@@ -61,7 +61,7 @@ impl Index<'_> {
     }
 }
 
-// ---- its writing
+// ---- its writing. What is written is lent by itself (image says why)
 
 impl Tables<'_> {
     // From C on no region has blocks, so that each starts where they end.
@@ -216,7 +216,7 @@ const SLOTS_AT_ONCE: usize = 32768;
 
 const MARK_BYTES: usize = SLOTS_AT_ONCE / 8;
 
-// Regions from `first` up to `last`, and of their slots those from `from` up to `to`.
+// Regions from `first` up to `last`, and of their slots those from `from` up to `to`: two ranges, of whose ends contracts speak by name.
 #[derive(Clone, Copy)]
 struct Window {
     first: Region,

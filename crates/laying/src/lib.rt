@@ -33,7 +33,7 @@ fn write_header(image: &mut [u8], version: Version, taken: u16)
     0u32.write(image, paper::BLANK_AT);
 }
 
-// Of the blocks taken, all the old anonymous book's, the last stands first. A block that is not taken holds region E-1, position 0.
+// Numbers are held against counts as in image. Of the blocks taken, all the old anonymous book's, the last stands first. A block that is not taken holds region E-1, position 0.
 fn new_owner(g: Geometry, taken: u16, b: Block) -> Region
     requires { Allowed g }
     ensures { result.0 ≡ moved_owner g taken b.0 }

@@ -17,7 +17,7 @@ ghost use Rattle.stretches.specs.Stretch.{block_from, offset_of, in_block, IsStr
 use index::{Index, Lent};
 use paper::{Block, Geometry, Position, Region, Spot};
 
-// So many bytes from `at` on in the image.
+// So many bytes from `at` on in the image, which is lent apart: a place and a length, and no part of it.
 #[derive(Clone, Copy)]
 pub struct Stretch {
     pub at: usize,

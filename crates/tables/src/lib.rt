@@ -15,7 +15,8 @@ use image::Image;
 use index::Index;
 use paper::{Block, Geometry, Pages, Position, Region};
 
-// What a growth starts from: the blocks that the book holds, region 1's blocks, and N. While it is made the tables change and this does not.
+// What a growth starts from: the blocks that the book holds, region 1's blocks, and N. While it is made the tables change and this does not. It goes
+// with a turn or a position: what holds of the two has a name (Found, FoundAt, Grantable).
 #[derive(Clone, Copy)]
 pub struct Stock {
     pub held: usize,
