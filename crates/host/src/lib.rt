@@ -5,7 +5,7 @@
 ghost use Rattle.std.specs.Prelude.{◌≡◌, []};
 ghost use Rattle.paper.specs.Calls.{lay, «open», grow, load, store, size, release, recover};
 ghost use Rattle.paper.specs.Move.{move_outcome};
-ghost use Rattle.paper.specs.Answers.{Answer, answered, plain, counted, opened_as};
+ghost use Rattle.paper.specs.Answers.{Answer, Refused, answered, plain, counted, opened_as};
 ghost use Rattle.paper.specs.Outcomes.{lent, outcome};
 ghost use Rattle.host.specs.Host.{geometry_of, packed, sees, host_sees};
 
@@ -77,13 +77,19 @@ impl Value for Book {
     }
 }
 
-// A refusal's value is 0 and a value's refusal is 0, so nothing is added.
+// A refusal by its number, whatever it is. Its value is 0, and a value's refusal is 0, so nothing is added.
+pub fn refused(number: u8) -> u64
+    ensures { result ≡ packed (Refused number) }
+{
+    number as u64 * VALUE_END
+}
+
 pub fn pack<T: Value>(answer: Result<T, Refusal>) -> u64
     ensures { result ≡ packed (answered T.told answer) }
 {
     match answer {
         Ok(value) => value.number(),
-        Err(refusal) => u8::from(refusal) as u64 * VALUE_END,
+        Err(refusal) => refused(u8::from(refusal)),
     }
 }
 
