@@ -2,12 +2,12 @@
 // geometry is named.
 #![tactic(auto)]
 
-ghost use Rattle.std.specs.Prelude.{◌≡◌, []};
+ghost use Rattle.std.specs.Prelude.{◌≡◌, ℕ, []};
 ghost use Rattle.paper.specs.Calls.{lay, «open», grow, load, store, size, release, recover};
 ghost use Rattle.paper.specs.Move.{move_outcome};
-ghost use Rattle.paper.specs.Answers.{Answer, Refused, answered, plain, counted, opened_as};
+ghost use Rattle.paper.specs.Answers.{Answer, Refused, no_of, plain, counted, opened_as};
 ghost use Rattle.paper.specs.Outcomes.{lent, outcome};
-ghost use Rattle.host.specs.Host.{geometry_of, packed, sees, host_sees};
+ghost use Rattle.host.specs.Host.{geometry_of, says, packed, sees, host_sees};
 
 use paper::{Book, Edition, Geometry, Offset, Pages, Refusal, Region, Version};
 
@@ -84,12 +84,36 @@ pub fn refused(number: u8) -> u64
     number as u64 * VALUE_END
 }
 
-pub fn pack<T: Value>(answer: Result<T, Refusal>) -> u64
-    ensures { result ≡ packed (answered T.told answer) }
+// What a call refuses with: a refusal of the table, or a number by itself, whatever it is.
+pub trait Refuses: Copy {
+    ghost no: { Self → ℕ };
+
+    fn refusal(self) -> u8
+        ensures { result ≡ no self };
+}
+
+impl Refuses for Refusal {
+    ghost no = { no_of };
+
+    fn refusal(self) -> u8 {
+        u8::from(self)
+    }
+}
+
+impl Refuses for u8 {
+    ghost no = { λ n. n };
+
+    fn refusal(self) -> u8 {
+        self
+    }
+}
+
+pub fn pack<T: Value, E: Refuses>(answer: Result<T, E>) -> u64
+    ensures { result ≡ packed (says T.told E.no answer) }
 {
     match answer {
         Ok(value) => value.number(),
-        Err(refusal) => refused(u8::from(refusal)),
+        Err(refused_with) => refused(refused_with.refusal()),
     }
 }
 

@@ -17,14 +17,6 @@ use Rattle.laws.proofs.Lists.{put-splice}
 pub part_back : (a k : ℕ) (xs ys zs : List ℕ) → zs ≡ ys → length ys ≡ k → put_mid a k xs zs ≡ splice a ys xs
 part_back a k xs ys zs e l = put-splice a k xs zs (rw e l) ∙ ap (λ (t : List ℕ). splice a t xs) e
 
--- n elements of one list, moved within it
-pub moved : (from to n : ℕ) (xs : List ℕ) → from + n ≤ length xs → copy_within xs from (from + n) to ≡ splice to (take n (drop from xs)) xs
-unfolding splice
-moved from to n xs h =
-    let k : from + n - from ≡ n = omega arith in
-    let l : length (take n (drop from xs)) ≡ n = simp (length-take, length-drop) (omega arith) in
-    rw (k, l) (append_assoc (take to xs) (take n (drop from xs)) (drop (to + n) xs))
-
 -- ---- the bytes of a number
 byte_is : (i x : ℕ) → byte_at i x ≡ x / 256 ^ i % 256
 byte_is zero x = rw div-one
