@@ -17,6 +17,9 @@ const VALUE_END: u64 = 1 << 56;
 // 2^16. A region lies below it, and in open's value its edition is counted in it.
 const REGION_END: u64 = 1 << 16;
 
+// What a call that has nothing to tell answers when it is done.
+const DONE: u64 = 0;
+
 // A number that names no geometry gives one that no call allows, as the paper of hosts has it: each call then refuses with 1 by itself.
 #[tactic(auto, unfolding(crate::specs::Host::geometry_of))]
 pub fn geometry_of(n: u32) -> Geometry
@@ -57,7 +60,7 @@ impl Value for () {
     ghost told = { plain };
 
     fn number(self) -> u64 {
-        0
+        DONE
     }
 }
 

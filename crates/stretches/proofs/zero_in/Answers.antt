@@ -47,7 +47,7 @@ pub overflow_add-rest : goal.overflow_add-rest
 overflow_add-rest c = let F = fits (goal.at.overflow_add-rest c).After-byte_at-from in omega (arith, F.image)
 
 pub zero_part-requires : goal.zero_part-requires
-zero_part-requires c = (omega arith, (fits (goal.at.zero_part-requires c).After-byte_at-from).image)
+zero_part-requires c = let F = fits (goal.at.zero_part-requires c).After-byte_at-from in (omega arith, omega (arith, F.image))
 
 pub loop-at-preserved : goal.loop-at-preserved
 loop-at-preserved c =
