@@ -43,8 +43,8 @@ loop-at-init c =
 pub byte_at-from-requires : goal.byte_at-from-requires
 byte_at-from-requires c = let T = turn (goal.at.byte_at-from-requires c).In-Some in (T.slot, T.inside)
 
-pub overflow_add-rest : goal.overflow_add-rest
-overflow_add-rest c = let F = fits (goal.at.overflow_add-rest c).After-byte_at-from in omega (arith, F.image)
+pub overflow_add-from : goal.overflow_add-from
+overflow_add-from c = let F = fits (goal.at.overflow_add-from c).After-byte_at-from in omega (arith, F.image)
 
 pub zero_part-requires : goal.zero_part-requires
 zero_part-requires c = let F = fits (goal.at.zero_part-requires c).After-byte_at-from in (omega arith, omega (arith, F.image))
