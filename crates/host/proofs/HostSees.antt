@@ -11,9 +11,7 @@ use lib.Arith.{digits_div, digits_mod}
 use lib.IntN.{pos}
 use lib.ListN.{length}
 use Rattle.paper.specs.declared.Geometry.{Geometry}
-use Rattle.std.specs.Prelude.{Result, Ok, Err}
-use Rattle.paper.specs.declared.Refusal.{Refusal}
-use Rattle.paper.specs.Answers.{Answer, no_of, answered}
+use Rattle.paper.specs.Answers.{Answer}
 use Rattle.paper.specs.Geometry.{last_edition, block_bytes, allowed, Allowed, capacity, most_book_pages}
 use Rattle.paper.specs.Image.{front, pages_of, edition_of}
 use Rattle.paper.specs.Calls.{Call, lay, «open», grow, load, store, look, size, release, recover, next_region}
@@ -22,15 +20,10 @@ use Rattle.paper.specs.Move.{move_refusal, move_outcome}
 use Rattle.paper.specs.Outcomes.{value_of, edition_in, State, gives, outcome}
 use Rattle.paper.proofs.Arithmetic.{book_pages_bound}
 use Rattle.rules.proofs.Outcomes.{outcome_number, outcome_paper}
-use Rattle.host.specs.Host.{no_geometry, geometry_of, value_end, region_end, host_value, packed, says, HostSees, sees, host_sees}
+use Rattle.host.specs.Host.{no_geometry, geometry_of, value_end, region_end, host_value, packed, HostSees, sees, host_sees}
 use Rattle.rules.proofs.Lines.{open_accepted, grow_accepted, size_accepted, refused_1, refused, move_done, move_refused, lay_done, open_done, grow_done, release_done, load_done, store_done, look_done, size_done, recover_done}
 use Rattle.rules.proofs.Usable.{usable_facts}
 use Rattle.keeping.proofs.Open.{open_next}
-
--- a Result whose refusal is one of the table's says the paper's answer
-pub says_answered : {A : Type 0} (done : A → Answer) (r : Result A Refusal) → says done no_of r ≡ answered done r
-says_answered done (Ok x) = refl
-says_answered done (Err k) = refl
 
 -- the number is the answer's, the geometry is the one named, and the call kept its promise
 pub host_sees_lem : {n : ℕ} {a : Answer} {bytes : List ℕ} {s : State} {g h : Geometry} (c : Call) (t : State)

@@ -33,10 +33,10 @@ host_value v e = in_bits_56 v + e * region_end
 abbrev pub packed : Answer → ℕ
 packed a = number_of a * value_end + host_value (value_of a) (edition_in a)
 
--- the answer that a Result says, where `done` is the paper's for its value, and `no` the number of its refusal
+-- the answer that a Result says, where `done` is the paper's for its value, and `number` is that of its refusal
 abbrev pub says : {A B : Type 0} → (A → Answer) → (B → ℕ) → Result A B → Answer
-says done no (Ok x) = done x
-says done no (Err k) = Refused (no k)
+says done number (Ok x) = done x
+says done number (Err k) = Refused (number k)
 
 -- all that a host sees of a call: its number, the buffer, and what is left in image and index
 pub record HostSees : Type 0 where

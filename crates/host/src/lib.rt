@@ -89,14 +89,14 @@ pub fn refused(number: u8) -> u64
 
 // What a call refuses with: a refusal of the table, or a number by itself, whatever it is.
 pub trait Refuses: Copy {
-    ghost no: { Self → ℕ };
+    ghost number: { Self → ℕ };
 
     fn refusal(self) -> u8
-        ensures { result ≡ no self };
+        ensures { result ≡ number self };
 }
 
 impl Refuses for Refusal {
-    ghost no = { no_of };
+    ghost number = { no_of };
 
     fn refusal(self) -> u8 {
         u8::from(self)
@@ -104,7 +104,7 @@ impl Refuses for Refusal {
 }
 
 impl Refuses for u8 {
-    ghost no = { λ n. n };
+    ghost number = { λ n. n };
 
     fn refusal(self) -> u8 {
         self
@@ -112,7 +112,7 @@ impl Refuses for u8 {
 }
 
 pub fn pack<T: Value, E: Refuses>(answer: Result<T, E>) -> u64
-    ensures { result ≡ packed (says T.told E.no answer) }
+    ensures { result ≡ packed (says T.told E.number answer) }
 {
     match answer {
         Ok(value) => value.number(),
