@@ -1,14 +1,13 @@
 -- What the library says of a number's bytes and of a lent part, in the words of laws.
-use Prim.Native.Nat.{ℕ, zero, suc, ◌+◌, ◌-◌, ◌*◌, ◌/◌, ◌%◌, ◌^◌, ◌≤◌, ◌<◌}
+use Prim.Native.Nat.{ℕ, zero, suc, ◌+◌, ◌-◌, ◌*◌, ◌/◌, ◌%◌, ◌^◌, ◌<◌}
 use mathlib.Core.Path.{◌≡◌, refl, sym, ◌∙◌, ap}
-use mathlib.Core.List.{List, append_assoc}
+use mathlib.Core.List.{List}
 use native.Mathlib.Omega.{arith}
 use native.Mathlib.Nat.{div-one, div-div-eq-div-mul, pow-suc}
 use native.Mathlib.Numerals.{add-one}
 use borrow.Rule.Slice.PartMut.{put_mid}
-use lib.ListN.{get_or, length, take, drop, length-take, length-drop}
+use lib.ListN.{get_or, length}
 use Rattle.std.specs.Int.{byte_at, byte_worth, bytes_low_first, sum_through}
-use Rattle.std.specs.List.{copy_within}
 use Rattle.laws.specs.Bytes.{num, le, splice, put}
 use Rattle.laws.proofs.Bytes.{length-le, num_join, num_one}
 use Rattle.laws.proofs.Lists.{put-splice}

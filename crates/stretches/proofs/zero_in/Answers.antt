@@ -4,7 +4,7 @@ use mathlib.Core.Path.{◌≡◌, refl, ◌∙◌}
 use lib.ListN.{length, length-replicate}
 use Rattle.laws.proofs.Lists.{zeros, zeros_part}
 use Rattle.rules.proofs.Right.{reads_index, reads_need}
-use Rattle.stretches.specs.Stretch.{block_from, offset_of, IsStep, Turn, Fits}
+use Rattle.stretches.specs.Stretch.{block_from, IsStep, Turn, Fits}
 use Rattle.stretches.proofs.Walks.{spot_first, walk_start, walk_end, same_step, step_on, step_turn, step_fits, written_none, step_written, written_done}
 use native.Mathlib.Omega.{arith}
 use Rattle.stretches.proofs.zero_in.Goals as goal
