@@ -118,11 +118,19 @@ impl Image<'_> {
     }
 
     // The pages of the book, 0 where the region is not open.
+    fn pages_by(&self, version_3: bool, r: Region) -> Pages
+        requires r_lt_entries { r.0 < self.now.g.entries }
+        requires version { version_3 ≡ eqb (version_of self.now.g (front_of self.now)) version3 }
+        ensures { result.0 ≡ pages_of self.now.g (front_of self.now) r.0 }
+    {
+        self.size_by(version_3, r).unwrap_or(Pages(0))
+    }
+
     pub fn pages(&self, r: Region) -> Pages
         requires r_lt_entries { r.0 < self.now.g.entries }
         ensures { result.0 ≡ pages_of self.now.g (front_of self.now) r.0 }
     {
-        self.size(r).unwrap_or(Pages(0))
+        self.pages_by(self.is_version_3(), r)
     }
 
     // The edition of the region's book, or of its next one where the region is not open. Version 2 has edition 0 only.
@@ -148,14 +156,6 @@ impl Image<'_> {
             Some(n) => self.g.need(n),
             None => 0,
         }
-    }
-
-    fn pages_by(&self, version_3: bool, r: Region) -> Pages
-        requires r_lt_entries { r.0 < self.now.g.entries }
-        requires version { version_3 ≡ eqb (version_of self.now.g (front_of self.now)) version3 }
-        ensures { result.0 ≡ pages_of self.now.g (front_of self.now) r.0 }
-    {
-        self.size_by(version_3, r).unwrap_or(Pages(0))
     }
 
     // Whether the book needs so many blocks: they hold its pages, and one less would not. Nothing is divided.
@@ -325,14 +325,15 @@ impl Image<'_> {
     }
 
     // Both sentences about the regions from C on. It is compiled by itself: among the other passes of a call its count would lie on the stack, and
-    // each look would wait for it.
+    // each look would wait for it. For the same reason the image is taken out of its loan first.
     #[inline(never)]
     fn high_fresh(&self) -> bool
         ensures { result ≡ all_from (counter self.now.g (front_of self.now)) self.now.g.entries (fresh self.now.g (front_of self.now)) }
     {
-        let entry = self.fresh_entry();
-        let c = self.counter().0 as usize;
-        (c..self.g.entries).all(|r| self.is_fresh(Region(r as u32), entry))
+        let image = *self;
+        let entry = image.fresh_entry();
+        let c = image.counter().0 as usize;
+        (c..image.g.entries).all(|r| image.is_fresh(Region(r as u32), entry))
     }
 
     fn is_current(&self, r: Region) -> bool

@@ -1,7 +1,9 @@
 -- `zero_in` meets its contract: before the walk's spot the image is that of a store of zeros.
-use Prim.Native.Nat.{◌+◌, ◌-◌}
-use mathlib.Core.Path.{◌≡◌, refl, ◌∙◌}
-use lib.ListN.{length, length-replicate}
+use Prim.Native.Nat.{ℕ, ◌+◌, ◌-◌}
+use mathlib.Core.Path.{◌≡◌, refl, sym, ap, ◌∙◌}
+use mathlib.Core.List.{List}
+use lib.ListN.{length, replicate, length-replicate}
+use Rattle.laws.specs.Bytes.{splice}
 use Rattle.laws.proofs.Lists.{zeros, zeros_part}
 use Rattle.rules.proofs.Right.{reads_index, reads_need}
 use Rattle.stretches.specs.Stretch.{block_from, IsStep, Turn, Fits}
@@ -65,7 +67,7 @@ loop-at-preserved c =
       geometry = c.in-Some.ensures.steps.1 ∙ x.invariant.geometry;
       walk = step_on x.invariant.walk S A;
       written = step_written g (block_from g c.args.index.now.bytes.now c.start-start.result) _ (zeros n) c.args.image.now A (length-replicate n 0) x.invariant.walk S x.invariant.written c.byte_at-from.ensures refl
-          (rw (e, ← part) at c.zero_part.ensures);
+          (c.zero_part.ensures ∙ ap (λ (z : List ℕ). splice a z x.image) (ap (λ (m : ℕ). replicate m 0) e ∙ sym part));
     }
 
 pub returns : goal.returns
