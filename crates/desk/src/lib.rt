@@ -19,7 +19,7 @@ use paper::{Block, Book, Geometry, Pages, Refusal, Region};
 // ---- shared refusals. What passes them is given back as a value that says so
 
 // 1, 3, 4.
-#[tactic(auto, unfolding(rules::specs::Lines::head_no, paper::specs::Refusals::first))]
+#[tactic(auto, using(paper::proofs::Arithmetic::allowed_facts, rules::proofs::Lines::head_1, rules::proofs::Lines::head_3, rules::proofs::Lines::head_4, rules::proofs::Lines::head_0))]
 pub fn head<'a>(g: Geometry, image: &'a [u8]) -> Result<Headed<'a>, Refusal>
     ensures number { no_in result ≡ head_no g image.now }
     ensures image { IfOk result (λ h. IsImage g image.now h.image) }
@@ -38,7 +38,7 @@ pub fn head<'a>(g: Geometry, image: &'a [u8]) -> Result<Headed<'a>, Refusal>
 }
 
 // 1, 2, 3.
-#[tactic(auto, unfolding(rules::specs::Lines::lent_no, paper::specs::Refusals::first))]
+#[tactic(auto, using(paper::proofs::Arithmetic::allowed_facts, rules::proofs::Lines::lent_1, rules::proofs::Lines::lent_2, rules::proofs::Lines::lent_3, rules::proofs::Lines::lent_0))]
 pub fn lent(g: Geometry, image: &[u8], index: &[u8]) -> Result<(), Refusal>
     ensures { no_in result ≡ lent_no g image.now index.now }
 {
@@ -55,7 +55,7 @@ pub fn lent(g: Geometry, image: &[u8], index: &[u8]) -> Result<(), Refusal>
 }
 
 // 1, 2, 3, 4.
-#[tactic(auto, unfolding(rules::specs::Lines::indexed_head_no, rules::specs::Lines::lent_no, paper::specs::Refusals::first))]
+#[tactic(auto, using(paper::proofs::Arithmetic::allowed_facts, rules::proofs::Lines::indexed_head_1, rules::proofs::Lines::indexed_head_2))]
 pub fn indexed_head<'a>(g: Geometry, image: &'a [u8], index: &[u8]) -> Result<Headed<'a>, Refusal>
     ensures number { no_in result ≡ indexed_head_no g image.now index.now }
     ensures image { IfOk result (λ h. IsImage g image.now h.image) }
@@ -79,7 +79,7 @@ pub fn tail_missing(headed: &Headed<'_>) -> bool
 }
 
 // 1, 3, 4, 5.
-#[tactic(auto, unfolding(rules::specs::Lines::whole_no, rules::specs::Lines::head_no, paper::specs::Refusals::first))]
+#[tactic(auto, using(rules::proofs::Lines::whole_5, rules::proofs::Lines::whole_0))]
 fn whole<'a>(g: Geometry, image: &'a [u8]) -> Result<Image<'a>, Refusal>
     ensures number { no_in result ≡ whole_no g image.now }
     ensures image { IfOk result (λ i. IsImage g image.now i) }
@@ -92,7 +92,7 @@ fn whole<'a>(g: Geometry, image: &'a [u8]) -> Result<Image<'a>, Refusal>
 }
 
 // 1, 2, 3, 4, 5.
-#[tactic(auto, unfolding(rules::specs::Lines::entered_no, rules::specs::Lines::indexed_head_no, paper::specs::Refusals::first))]
+#[tactic(auto, using(rules::proofs::Lines::indexed_head_shown, rules::proofs::Lines::entered_5, rules::proofs::Lines::entered_0))]
 pub fn entered<'a, 'b>(
     g: Geometry,
     image: &'a [u8],
@@ -128,7 +128,7 @@ pub fn is_edition(image: &Image<'_>, book: Book) -> bool
 }
 
 // 8, 18.
-#[tactic(auto, unfolding(rules::specs::Lines::name_no, paper::specs::Refusals::first))]
+#[tactic(auto, using(rules::proofs::Lines::name_8, rules::proofs::Lines::name_18, rules::proofs::Lines::name_0))]
 pub fn name_book(image: &Image<'_>, book: Book) -> Result<(), Refusal>
     ensures { no_in result ≡ name_no image.now.g image.now.bytes.now book.region.0 book.edition.0 }
 {
@@ -142,7 +142,7 @@ pub fn name_book(image: &Image<'_>, book: Book) -> Result<(), Refusal>
 }
 
 // 8, 18, and 6 for this book alone.
-#[tactic(auto, unfolding(rules::specs::Lines::book_no, rules::specs::Lines::name_no, paper::specs::Refusals::first))]
+#[tactic(auto, using(rules::proofs::Lines::name_shown, rules::proofs::Lines::book_6, rules::proofs::Lines::book_0))]
 pub fn check_book(image: &Image<'_>, book: Book) -> Result<(), Refusal>
     ensures { no_in result ≡ book_no image.now.g image.now.bytes.now book.region.0 book.edition.0 }
 {
@@ -155,7 +155,7 @@ pub fn check_book(image: &Image<'_>, book: Book) -> Result<(), Refusal>
 
 // ---- Size: answers the page count; takes no index
 
-#[tactic(auto, unfolding(rules::specs::Lines::whole_no, rules::specs::Lines::book_no, paper::specs::Refusals::first, paper::specs::Refusals::checks, paper::specs::Outcomes::outcome, paper::specs::Outcomes::accepted))]
+#[tactic(auto, using(rules::proofs::Lines::whole_shown, rules::proofs::Lines::size_on, rules::proofs::Lines::size_done))]
 pub fn size(g: Geometry, image: &[u8], book: Book) -> Result<Pages, Refusal>
     ensures { gives (answered counted result) [] (lent image.now []) ≡ outcome g (size book.region.0 book.edition.0) (lent image.now []) }
 {

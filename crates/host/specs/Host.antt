@@ -1,7 +1,7 @@
 -- "A host in C or Rust calls them with numbers and byte slices only": a geometry by number, and an answer as one number.
-use Rattle.std.specs.Prelude.{ℕ, ◌+◌, ◌-◌, ◌*◌, ◌^◌, cond, List, eqb, ℤ, pos, negsuc}
+use Rattle.std.specs.Prelude.{ℕ, ◌+◌, ◌-◌, ◌*◌, ◌^◌, cond, List, eqb, ℤ, pos, negsuc, Result, Ok, Err}
 use Rattle.paper.specs.declared.Geometry.{Geometry}
-use Rattle.paper.specs.Answers.{Answer}
+use Rattle.paper.specs.Answers.{Answer, Refused}
 use Rattle.paper.specs.Geometry.{bench, house}
 use Rattle.paper.specs.Outcomes.{number_of, value_of, edition_in, State, Outcome}
 
@@ -32,6 +32,11 @@ host_value v e = in_bits_56 v + e * region_end
 -- refusal × 2^56 + value
 abbrev pub packed : Answer → ℕ
 packed a = number_of a * value_end + host_value (value_of a) (edition_in a)
+
+-- the answer that a Result says, where `done` is the paper's for its value, and `number` is that of its refusal
+abbrev pub says : {A B : Type 0} → (A → Answer) → (B → ℕ) → Result A B → Answer
+says done number (Ok x) = done x
+says done number (Err k) = Refused (number k)
 
 -- all that a host sees of a call: its number, the buffer, and what is left in image and index
 pub record HostSees : Type 0 where

@@ -2,12 +2,12 @@
 // geometry is named.
 #![tactic(auto)]
 
-ghost use Rattle.std.specs.Prelude.{◌≡◌, []};
+ghost use Rattle.std.specs.Prelude.{◌≡◌, ℕ, []};
 ghost use Rattle.paper.specs.Calls.{lay, «open», grow, load, store, size, release, recover};
 ghost use Rattle.paper.specs.Move.{move_outcome};
-ghost use Rattle.paper.specs.Answers.{Answer, Refused, answered, plain, counted, opened_as};
+ghost use Rattle.paper.specs.Answers.{Answer, Refused, no_of, plain, counted, opened_as};
 ghost use Rattle.paper.specs.Outcomes.{lent, outcome};
-ghost use Rattle.host.specs.Host.{geometry_of, packed, sees, host_sees};
+ghost use Rattle.host.specs.Host.{geometry_of, says, packed, sees, host_sees};
 
 use paper::{Book, Edition, Geometry, Offset, Pages, Refusal, Region, Version};
 
@@ -16,6 +16,9 @@ const VALUE_END: u64 = 1 << 56;
 
 // 2^16. A region lies below it, and in open's value its edition is counted in it.
 const REGION_END: u64 = 1 << 16;
+
+// What a call that has nothing to tell answers when it is done.
+const DONE: u64 = 0;
 
 // A number that names no geometry gives one that no call allows, as the paper of hosts has it: each call then refuses with 1 by itself.
 #[tactic(auto, unfolding(crate::specs::Host::geometry_of))]
@@ -57,7 +60,7 @@ impl Value for () {
     ghost told = { plain };
 
     fn number(self) -> u64 {
-        0
+        DONE
     }
 }
 
@@ -84,12 +87,36 @@ pub fn refused(number: u8) -> u64
     number as u64 * VALUE_END
 }
 
-pub fn pack<T: Value>(answer: Result<T, Refusal>) -> u64
-    ensures { result ≡ packed (answered T.told answer) }
+// What a call refuses with: a refusal of the table, or a number by itself, whatever it is.
+pub trait Refuses: Copy {
+    ghost number: { Self → ℕ };
+
+    fn refusal(self) -> u8
+        ensures { result ≡ number self };
+}
+
+impl Refuses for Refusal {
+    ghost number = { no_of };
+
+    fn refusal(self) -> u8 {
+        u8::from(self)
+    }
+}
+
+impl Refuses for u8 {
+    ghost number = { λ n. n };
+
+    fn refusal(self) -> u8 {
+        self
+    }
+}
+
+pub fn pack<T: Value, E: Refuses>(answer: Result<T, E>) -> u64
+    ensures { result ≡ packed (says T.told E.number answer) }
 {
     match answer {
         Ok(value) => value.number(),
-        Err(refusal) => refused(u8::from(refusal)),
+        Err(refused_with) => refused(refused_with.refusal()),
     }
 }
 

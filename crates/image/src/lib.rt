@@ -71,19 +71,21 @@ impl Image<'_> {
     }
 
     // Version 3 keeps the low half of a region's entry for the pages, and the high half for the edition.
-    fn is_version_3(&self) -> bool
+    pub fn is_version_3(&self) -> bool
         ensures { result ≡ eqb (version_of self.now.g (front_of self.now)) version3 }
     {
         u32::read(self.bytes, paper::VERSION_AT) == u32::from(Version::Three)
     }
 
-    // What an entry says of its book: the pages, or none for "not open".
-    fn size(&self, r: Region) -> Option<Pages>
+    // What an entry says of its book, by the version: the pages, or none for "not open". Whoever goes through many regions has asked the version
+    // before: it is asked of each no more, and the loop is compiled for either.
+    fn size_by(&self, version_3: bool, r: Region) -> Option<Pages>
         requires r_lt_entries { r.0 < self.now.g.entries }
+        requires version { version_3 ≡ eqb (version_of self.now.g (front_of self.now)) version3 }
         ensures { size_of self.now.g (front_of self.now) r.0 ≡ sized result }
     {
         let at = self.g.size_at(r);
-        if self.is_version_3() {
+        if version_3 {
             let n = u32::read(self.bytes, at);
             return if n == paper::LOW_ONES {
                 None
@@ -99,6 +101,13 @@ impl Image<'_> {
         }
     }
 
+    fn size(&self, r: Region) -> Option<Pages>
+        requires r_lt_entries { r.0 < self.now.g.entries }
+        ensures { size_of self.now.g (front_of self.now) r.0 ≡ sized result }
+    {
+        self.size_by(self.is_version_3(), r)
+    }
+
     pub fn is_open(&self, r: Region) -> bool
         ensures { result ≡ is_open self.now.g (front_of self.now) r.0 }
     {
@@ -109,11 +118,19 @@ impl Image<'_> {
     }
 
     // The pages of the book, 0 where the region is not open.
+    fn pages_by(&self, version_3: bool, r: Region) -> Pages
+        requires r_lt_entries { r.0 < self.now.g.entries }
+        requires version { version_3 ≡ eqb (version_of self.now.g (front_of self.now)) version3 }
+        ensures { result.0 ≡ pages_of self.now.g (front_of self.now) r.0 }
+    {
+        self.size_by(version_3, r).unwrap_or(Pages(0))
+    }
+
     pub fn pages(&self, r: Region) -> Pages
         requires r_lt_entries { r.0 < self.now.g.entries }
         ensures { result.0 ≡ pages_of self.now.g (front_of self.now) r.0 }
     {
-        self.size(r).unwrap_or(Pages(0))
+        self.pages_by(self.is_version_3(), r)
     }
 
     // The edition of the region's book, or of its next one where the region is not open. Version 2 has edition 0 only.
@@ -142,16 +159,24 @@ impl Image<'_> {
     }
 
     // Whether the book needs so many blocks: they hold its pages, and one less would not. Nothing is divided.
-    pub fn is_need(&self, r: Region, blocks: u64) -> bool
+    pub fn is_need_by(&self, version_3: bool, r: Region, blocks: u64) -> bool
         requires r_lt_entries { (r.0 < self.now.g.entries) × (blocks < 2 ^ 16) }
+        requires version { version_3 ≡ eqb (version_of self.now.g (front_of self.now)) version3 }
         ensures { result ≡ eqb (need_of self.now.g (front_of self.now) r.0) blocks }
     {
         let room = blocks * self.g.pages as u64;
-        let n = self.pages(r);
+        let n = self.pages_by(version_3, r);
         if room < n.0 {
             return false;
         }
         room - n.0 < self.g.pages as u64
+    }
+
+    pub fn is_need(&self, r: Region, blocks: u64) -> bool
+        requires r_lt_entries { (r.0 < self.now.g.entries) × (blocks < 2 ^ 16) }
+        ensures { result ≡ eqb (need_of self.now.g (front_of self.now) r.0) blocks }
+    {
+        self.is_need_by(self.is_version_3(), r, blocks)
     }
 }
 
@@ -300,14 +325,15 @@ impl Image<'_> {
     }
 
     // Both sentences about the regions from C on. It is compiled by itself: among the other passes of a call its count would lie on the stack, and
-    // each look would wait for it.
+    // each look would wait for it. For the same reason the image is taken out of its loan first.
     #[inline(never)]
     fn high_fresh(&self) -> bool
         ensures { result ≡ all_from (counter self.now.g (front_of self.now)) self.now.g.entries (fresh self.now.g (front_of self.now)) }
     {
-        let entry = self.fresh_entry();
-        let c = self.counter().0 as usize;
-        (c..self.g.entries).all(|r| self.is_fresh(Region(r as u32), entry))
+        let image = *self;
+        let entry = image.fresh_entry();
+        let c = image.counter().0 as usize;
+        (c..image.g.entries).all(|r| image.is_fresh(Region(r as u32), entry))
     }
 
     fn is_current(&self, r: Region) -> bool

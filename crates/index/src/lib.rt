@@ -4,8 +4,8 @@
 ghost use Rattle.std.specs.Prelude.{◌≡◌, ◌+◌, ◌*◌, ◌/◌, ◌≤◌, ◌<◌, eqb, length};
 ghost use Rattle.laws.specs.Bytes.{put};
 ghost use Rattle.laws.specs.Folds.{all_below, all_from};
-ghost use Rattle.paper.specs.Geometry.{slot_at};
-ghost use Rattle.paper.specs.Image.{taken};
+ghost use Rattle.paper.specs.Geometry.{version3, slot_at};
+ghost use Rattle.paper.specs.Image.{version_of, taken};
 ghost use Rattle.paper.specs.Index.{index_of, start_of, start_in, slot_in};
 ghost use Rattle.paper.specs.WellFormed.{alone};
 ghost use Rattle.rules.specs.Facts.{Rules, Indexed, slot_for};
@@ -140,13 +140,14 @@ impl Index<'_> {
 
 impl Lent<'_, '_> {
     // Start r + 1 is as far from start r as region r needs.
-    fn step_right(&self, r: Region) -> bool
+    fn step_right(&self, version_3: bool, r: Region) -> bool
         requires r_lt_entries { r.0 < self.now.image.g.entries }
+        requires version { version_3 ≡ eqb (version_of self.now.image.g (front_of self.now.image)) version3 }
         ensures { result ≡ step_right self.now.image.g (front_of self.now.image) self.now.index.bytes.now r.0 }
     {
         let start = self.index.start(r) as u64;
         let next = self.index.start(Region(r.0 + 1)) as u64;
-        start <= next && self.image.is_need(r, next - start)
+        start <= next && self.image.is_need_by(version_3, r, next - start)
     }
 
     // The starts up to that of region `end`.
@@ -154,7 +155,9 @@ impl Lent<'_, '_> {
         requires end_le_entries { end.0 ≤ self.now.image.g.entries }
         ensures { result ≡ all_below (end.0 + 1) (start_right self.now.image.g (front_of self.now.image) self.now.index.bytes.now) }
     {
-        self.index.start(Region(0)) == 0 && (0..end.0).all(|r| self.step_right(Region(r)))
+        let version_3 = self.image.is_version_3();
+        self.index.start(Region(0)) == 0
+            && (0..end.0).all(|r| self.step_right(version_3, Region(r)))
     }
 
     // Every start is right, and the last is N. From C on no region has blocks, so that each starts where they end.

@@ -1,14 +1,13 @@
 -- What the library says of a number's bytes and of a lent part, in the words of laws.
-use Prim.Native.Nat.{ℕ, zero, suc, ◌+◌, ◌-◌, ◌*◌, ◌/◌, ◌%◌, ◌^◌, ◌≤◌, ◌<◌}
+use Prim.Native.Nat.{ℕ, zero, suc, ◌+◌, ◌-◌, ◌*◌, ◌/◌, ◌%◌, ◌^◌, ◌<◌}
 use mathlib.Core.Path.{◌≡◌, refl, sym, ◌∙◌, ap}
-use mathlib.Core.List.{List, append_assoc}
+use mathlib.Core.List.{List}
 use native.Mathlib.Omega.{arith}
 use native.Mathlib.Nat.{div-one, div-div-eq-div-mul, pow-suc}
 use native.Mathlib.Numerals.{add-one}
 use borrow.Rule.Slice.PartMut.{put_mid}
-use lib.ListN.{get_or, length, take, drop, length-take, length-drop}
+use lib.ListN.{get_or, length}
 use Rattle.std.specs.Int.{byte_at, byte_worth, bytes_low_first, sum_through}
-use Rattle.std.specs.List.{copy_within}
 use Rattle.laws.specs.Bytes.{num, le, splice, put}
 use Rattle.laws.proofs.Bytes.{length-le, num_join, num_one}
 use Rattle.laws.proofs.Lists.{put-splice}
@@ -16,14 +15,6 @@ use Rattle.laws.proofs.Lists.{put-splice}
 -- a part that was lent as &mut xs[a..a + k] and came back as ys
 pub part_back : (a k : ℕ) (xs ys zs : List ℕ) → zs ≡ ys → length ys ≡ k → put_mid a k xs zs ≡ splice a ys xs
 part_back a k xs ys zs e l = put-splice a k xs zs (rw e l) ∙ ap (λ (t : List ℕ). splice a t xs) e
-
--- n elements of one list, moved within it
-pub moved : (from to n : ℕ) (xs : List ℕ) → from + n ≤ length xs → copy_within xs from (from + n) to ≡ splice to (take n (drop from xs)) xs
-unfolding splice
-moved from to n xs h =
-    let k : from + n - from ≡ n = omega arith in
-    let l : length (take n (drop from xs)) ≡ n = simp (length-take, length-drop) (omega arith) in
-    rw (k, l) (append_assoc (take to xs) (take n (drop from xs)) (drop (to + n) xs))
 
 -- ---- the bytes of a number
 byte_is : (i x : ℕ) → byte_at i x ≡ x / 256 ^ i % 256

@@ -32,7 +32,7 @@ fn in_order(headed: &Headed<'_>) -> bool
 }
 
 // 1 to 4, 16, 5, 6.
-#[tactic(auto, unfolding(paper::specs::Refusals::checks, paper::specs::Refusals::first, rules::specs::Lines::indexed_head_no))]
+#[tactic(auto, using(rules::proofs::Facts::order_rules, rules::proofs::Lines::indexed_head_shown, rules::proofs::Lines::whole_entered, rules::proofs::Lines::recover_16, rules::proofs::Lines::recover_5, rules::proofs::Lines::recover_6, rules::proofs::Lines::recover_0))]
 fn recoverable<'a>(g: Geometry, image: &'a [u8], index: &[u8]) -> Result<Image<'a>, Refusal>
     ensures number { no_in result ≡ refusal g image.now index.now recover }
     ensures image { IfOk result (λ i. IsImage g image.now i) }
@@ -61,7 +61,7 @@ fn vouched(lent: &Lent<'_, '_>) -> bool
 }
 
 // 1 to 7. Only where the index is not its own witness are the rules asked of the tables alone, to tell 6 from 7.
-#[tactic(auto, unfolding(rules::specs::Lines::ordered_no, rules::specs::Lines::entered_no, paper::specs::Refusals::first))]
+#[tactic(auto, using(rules::proofs::Lines::entered_shown, rules::proofs::Lines::ordered_6))]
 pub fn ordered(g: Geometry, image: &[u8], index: &[u8]) -> Result<(), Refusal>
     ensures { no_in result ≡ ordered_no g image.now index.now }
 {
@@ -77,7 +77,7 @@ pub fn ordered(g: Geometry, image: &[u8], index: &[u8]) -> Result<(), Refusal>
 }
 
 // Recover: writes the whole index from the image.
-#[tactic(auto, unfolding(paper::specs::Outcomes::outcome, paper::specs::Outcomes::accepted))]
+#[tactic(auto, using(rules::proofs::Lines::recover_done))]
 pub fn recover(g: Geometry, image: &[u8], index: &mut [u8]) -> Result<(), Refusal>
     ensures { gives (answered plain result) [] (lent image.now index.new) ≡ outcome g recover (lent image.now index.old) }
 {

@@ -30,7 +30,7 @@ use Rattle.paper.specs.Outcomes.{number_of, value_of, edition_in, opening, State
 use Rattle.paper.proofs.Arithmetic.{allowed_facts, facts_allowed, whole_block}
 use Rattle.rules.specs.Facts.{Rules, Header, Formed, Readable, Headed, Whole, Entered, Ordered, IsBook, Reads, Movable}
 use Rattle.rules.specs.Unused.{inspects}
-use Rattle.rules.specs.Lines.{head_no, whole_no, book_no, lent_no, indexed_head_no, entered_no, ordered_no, read_no}
+use Rattle.rules.specs.Lines.{head_no, whole_no, name_no, book_no, lent_no, indexed_head_no, entered_no, ordered_no, read_no}
 use Rattle.rules.proofs.Cells.{length_front}
 use Rattle.rules.proofs.Facts.{order_rules, rules_order}
 use Rattle.rules.proofs.Index.{length_index}
@@ -213,7 +213,27 @@ module _ (g : Geometry) (image : List ℕ) where
     unfolding whole_no
     whole_0 l = whole_line (no5 g image [] ∷ []) H ∙ pass (ask5 g image []) _ l ∙ first_nil
 
-  -- 8, 18 and 6, of one book
+  -- 8 and 18, of one book
+  module _ (r d : ℕ) where
+    pub name_shown : name_no g image r d ≡ 0 → IsBook g (front g image) r d
+    unfolding name_no
+    name_shown e =
+        let f8 = shown (ask8 g image [] r) _ (omega arith) e in
+        record { usable = f8.0; edition = (shown (ask18 g image [] r d) _ (omega arith) f8.1).0 }
+
+    pub name_8 : usable g (front g image) r ≡ false → name_no g image r d ≡ 8
+    unfolding name_no
+    name_8 u = halt (ask8 g image [] r) _ (λ h. clash (usable g (front g image) r) h u)
+
+    pub name_18 : usable g (front g image) r ≡ true → edition_of g (front g image) r ≢ d → name_no g image r d ≡ 18
+    unfolding name_no
+    name_18 u ne = pass (ask8 g image [] r) _ u ∙ halt (ask18 g image [] r d) _ ne
+
+    pub name_0 : IsBook g (front g image) r d → name_no g image r d ≡ 0
+    unfolding name_no
+    name_0 b = pass (ask8 g image [] r) _ b.usable ∙ pass (ask18 g image [] r d) _ b.edition ∙ first_nil
+
+  -- and 6
   module _ (r d : ℕ) where
     pub book_shown : book_no g image r d ≡ 0 → IsBook g (front g image) r d × (pages_of g (front g image) r ≤ most_book_pages g)
     unfolding book_no
@@ -221,6 +241,10 @@ module _ (g : Geometry) (image : List ℕ) where
         let f8 = shown (ask8 g image [] r) _ (omega arith) e in
         let f18 = shown (ask18 g image [] r d) _ (omega arith) f8.1 in
         (record { usable = f8.0; edition = f18.0 }, (shown (ask6of g image [] r) _ (omega arith) f18.1).0)
+
+    pub book_stop : (k : ℕ) → k ≡ name_no g image r d → k ≢ 0 → book_no g image r d ≡ k
+    unfolding name_no book_no
+    book_stop k e ne = first_stop (naming g image [] r d []) (no6of g image [] r ∷ []) refl k (sym e) ne
 
     pub book_8 : usable g (front g image) r ≡ false → book_no g image r d ≡ 8
     unfolding book_no

@@ -171,6 +171,23 @@ pub fn copy_in(image: &mut [u8], index: &Index<'_>, r: Region, spot: Spot, bytes
     }
 }
 
+// Zeros into the book: n bytes from the spot on.
+pub fn zero_in(image: &mut [u8], index: &Index<'_>, r: Region, spot: Spot, n: usize)
+    requires { Reads index.now.g image.old index.now.bytes.now r.0 (offset_of index.now.g spot) n × (spot.within < block_bytes index.now.g) }
+    ensures { image.new ≡ stored index.now.g (block_in index.now.g index.now.bytes.now r.0) (need_of index.now.g (front index.now.g image.old) r.0) (offset_of index.now.g spot) (replicate n 0) image.old }
+{
+    let start = index.start(r);
+    let walk = Walk {
+        g: index.g,
+        at: spot,
+        left: n,
+    };
+    for (at, bytes) in walk {
+        let from = byte_at(index, start, at);
+        numbers::zero_part(image, from, from + bytes);
+    }
+}
+
 // Zeros into block b, whether a table tells of it or not: of so many bytes left those that fall into it from the spot on. Answers how many.
 pub fn zero_at(g: Geometry, image: &mut [u8], b: Block, spot: Spot, left: usize) -> usize
     requires { Allowed g × (spot.within < block_bytes g) × (data_at g b.0 + block_bytes g ≤ length image.old) }

@@ -1,7 +1,11 @@
 -- `recovery::recover` meets its contract: refused, or done.
 use Rattle.std.proofs.Common.{sym}
 use Rattle.rules.proofs.Lines.{recover_accepted}
+use Rattle.desk.proofs.Refusing.{outcome_left}
 use Rattle.recovery.proofs.recover.Goals as goal
+
+pub returns-in_err-image : goal.returns-in_err-image
+returns-in_err-image c = outcome_left _ _ _ _ _ _ c.from_residual.ensures.1 (sym c.in_err-image.ensures.number)
 
 pub write_index-requires-clause-indexed : goal.write_index-requires-clause-indexed
 write_index-requires-clause-indexed c =

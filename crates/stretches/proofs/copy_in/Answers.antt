@@ -43,7 +43,7 @@ pub byte_at-to-requires : goal.byte_at-to-requires
 byte_at-to-requires c = let T = turn (goal.at.byte_at-to-requires c).In-Some in (T.slot, T.inside)
 
 pub copy_part-requires : goal.copy_part-requires
-copy_part-requires c = let F = fits (goal.at.copy_part-requires c).After-byte_at-to in (omega (arith, F.asked, c.loop-at.invariant.done), F.image)
+copy_part-requires c = let F = fits (goal.at.copy_part-requires c).After-byte_at-to in (omega (arith, F.asked, c.loop-at.invariant.done), omega (arith, F.image))
 
 pub overflow_add-done : goal.overflow_add-done
 overflow_add-done c = let F = fits (goal.at.overflow_add-done c).After-byte_at-to in omega (arith, F.asked, c.loop-at.invariant.done)
