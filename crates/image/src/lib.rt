@@ -55,8 +55,8 @@ impl Image<'_> {
         Region(u16::read(self.bytes, self.g.entry_at(b)) as u32)
     }
 
-    // The position as the entry has it: two bytes, so that the pages before it can be counted in eight.
-    fn stored_place(&self, b: Block) -> u16
+    // The position as the entry has it: two bytes, so that the pages before it can be counted in eight, and a slot from a start on.
+    pub fn stored_place(&self, b: Block) -> u16
         requires b_lt_blocks { b.0 < self.now.g.blocks }
         ensures { result ≡ place self.now.g (front_of self.now) b.0 }
     {

@@ -179,10 +179,8 @@ impl Lent<'_, '_> {
         if self.image.g.entries <= r.0 as usize {
             return false;
         }
-        let start = self.index.start(r) as usize;
-        let need = self.index.start(Region(r.0 + 1)) as usize - start;
-        let place = self.image.place(b).0;
-        place < need && self.index.slot(start + place) == b
+        let s = self.index.start(r) as usize + self.image.stored_place(b) as usize;
+        s < self.index.start(Region(r.0 + 1)) as usize && self.index.slot(s) == b
     }
 
     fn blocks_right(&self) -> bool

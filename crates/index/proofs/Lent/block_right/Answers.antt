@@ -3,7 +3,7 @@ use Rattle.std.proofs.Common.{◌<◌, rules, tests, arith}
 use Rattle.image.specs.Views.{front_of}
 use Rattle.paper.specs.Image.{owner}
 use Rattle.rules.proofs.Sentences.{named_past}
-use Rattle.index.proofs.Witness.{needs, right_beyond, right_slot, told_below}
+use Rattle.index.proofs.Witness.{right_beyond, right_slot, told_below}
 use Rattle.index.proofs.Lent.block_right.Goals as goal
 use Rattle.index.proofs.Lent.block_right.Goals.{Else-self-r}
 
@@ -17,22 +17,17 @@ returns-then-self-r c =
     let past = named_past i.g (front_of i) c.args.b.0 (omega (arith, c.owner-r.ensures)) in
     search (rules, tests, past)
 
-pub overflow_sub-need : goal.overflow_sub-need
-overflow_sub-need c =
-    let need = needs _ _ _ c.requires.summed c.args.b.0 (inside (goal.at.overflow_sub-need c).Else-self-r) in
-    search (arith, need, c.owner-r.ensures, c.start-start.ensures, c.start.ensures)
-
 pub slot-requires : goal.slot-requires
 slot-requires c =
     let told = told_below _ _ _ c.requires.summed c.args.b.0 (inside (goal.at.slot-requires c).Else-self-r) in
-    rw c.args.self.now.same (search (arith, told, c.owner-r.ensures, c.start-start.ensures, c.start.ensures, c.place-place.ensures))
+    rw c.args.self.now.same (search (arith, told, c.owner-r.ensures, c.start.ensures, c.start-2.ensures, c.stored_place.ensures))
 
-pub returns-then-place-need : goal.returns-then-place-need
-returns-then-place-need c =
-    let right = right_slot _ _ _ c.requires.summed c.args.b.0 (inside (goal.at.returns-then-place-need c).Else-self-r) in
-    search (rules, tests, arith, right, c.owner-r.ensures, c.start-start.ensures, c.start.ensures, c.place-place.ensures)
+pub returns-then-s-start : goal.returns-then-s-start
+returns-then-s-start c =
+    let right = right_slot _ _ _ c.requires.summed c.args.b.0 (inside (goal.at.returns-then-s-start c).Else-self-r) in
+    search (rules, tests, arith, right, c.owner-r.ensures, c.start.ensures, c.start-2.ensures, c.stored_place.ensures)
 
-pub returns-else-place-need : goal.returns-else-place-need
-returns-else-place-need c =
-    let wrong = right_beyond _ _ _ c.requires.summed c.args.b.0 (inside (goal.at.returns-else-place-need c).Else-self-r) in
-    search (rules, tests, arith, wrong, c.owner-r.ensures, c.start-start.ensures, c.start.ensures, c.place-place.ensures)
+pub returns-else-s-start : goal.returns-else-s-start
+returns-else-s-start c =
+    let wrong = right_beyond _ _ _ c.requires.summed c.args.b.0 (inside (goal.at.returns-else-s-start c).Else-self-r) in
+    search (rules, tests, arith, wrong, c.owner-r.ensures, c.start.ensures, c.start-2.ensures, c.stored_place.ensures)
